@@ -1,0 +1,13 @@
+pub mod Bytes
+pub mod Lexer
+pub mod Laws
+pub mod Longest
+pub mod First
+pub mod Fits
+pub mod Cases
+pub mod Pairs
+pub mod At
+pub mod Lex
+pub mod Walk
+pub mod Calls
+pub mod Examples

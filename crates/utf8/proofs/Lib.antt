@@ -1,0 +1,4 @@
+pub mod Follow
+pub mod Points
+pub mod Table
+pub mod Walk

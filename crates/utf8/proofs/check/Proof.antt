@@ -1,0 +1,83 @@
+-- `utf8::check` meets its contract. The loop's invariant: what the text from `at` on is found to be is what the whole text is.
+-- The measure is what is left of the length. Assumes nothing.
+use mathlib.Core.Path.{_≡_, refl, sym, _∙_}
+use Prim.Native.Nat.{_-_, _≤_}
+use native.Mathlib.Omega.{arith}
+use borrow.Author.Needs.{needs}
+use lib.ListN.{length, drop, drop-of-length-le}
+use Rattle.utf8.specs.Utf8.{checkedFrom, checked}
+use Rattle.utf8.proofs.Walk.{Fits, fits, walk-right, walk-wrong}
+use Rattle.utf8.proofs.check.Statement.{statement}
+use Rattle.utf8.proofs.check.Tie as tie
+
+abbrev Inv-loop : tie.InvT-loop
+Inv-loop text at₀ at = (at ≤ length text) × (checkedFrom at 0 (drop at text) ≡ checked text)
+
+abbrev μ-loop : tie.MeasureT-loop
+μ-loop text at₀ at = length text - at
+
+loop-holds : tie.Need-loop-holds Inv-loop μ-loop
+loop-holds c = (omega arith, refl)
+
+sequence-at-requires : tie.Need-sequence-at-requires Inv-loop μ-loop
+sequence-at-requires c κs = search needs
+
+enum-known-n : tie.Need-enum-known-n Inv-loop μ-loop
+enum-known-n c = search needs
+
+-- The sequence that was found is in the text.
+arm : (c : tie.After-known-told Inv-loop μ-loop) → Fits (c .before .before .before .before .before .before .before .args .text .now) (c .before .before .before .before .before .loop .at) (c .before .n .given .0 .0)
+arm c = fits _ _ (c .before .before .before .before .loop-test .taken) _ (sym (c .before .before .before .sequence-at .ensures) ∙ c .before .n .given .1)
+
+add-at : tie.Need-add-at Inv-loop μ-loop
+add-at c = omega (arith, arm c)
+
+loop-less : tie.Need-loop-less Inv-loop μ-loop
+loop-less c = omega (arith, arm c)
+
+loop-again : tie.Need-loop-again Inv-loop μ-loop
+loop-again c =
+    let w =
+    walk-right
+    (c .before .before .before .before .before .before .before .args .text .now)
+    (c .before .before .before .before .before .loop .at)
+    (c .before .before .before .before .loop-test .taken)
+    (c .before .n .given .0 .0)
+    (sym (c .before .before .before .sequence-at .ensures) ∙ c .before .n .given .1) in
+    (arm c .within, sym w ∙ c .before .before .before .before .before .loop .inv .1)
+
+enum-known-way : tie.Need-enum-known-way Inv-loop μ-loop
+enum-known-way c = search needs
+
+returns : tie.Need-returns Inv-loop μ-loop
+returns c =
+    let w =
+    walk-wrong
+    (c .before .before .before .before .before .before .before .args .text .now)
+    (c .before .before .before .before .before .loop .at)
+    (c .before .before .before .before .loop-test .taken)
+    (c .before .way .given .0 .0)
+    (sym (c .before .before .before .sequence-at .ensures) ∙ c .before .way .given .1) in
+    sym w ∙ c .before .before .before .before .before .loop .inv .1
+
+returns-2 : tie.Need-returns-2 Inv-loop μ-loop
+unfolding checkedFrom
+returns-2 c =
+    let e = drop-of-length-le (c .before .before .before .args .text .now) (c .loop-test .left) in
+    rw e at (c .before .loop .inv .1)
+
+pub check-spec : {M : Type 1} → statement M
+check-spec =
+    tie.close
+    (tie.spec
+    Inv-loop
+    μ-loop
+    loop-holds
+    sequence-at-requires
+    enum-known-n
+    add-at
+    loop-less
+    loop-again
+    enum-known-way
+    returns
+    returns-2)

@@ -1,0 +1,4 @@
+pub mod Utf8
+pub mod Rows
+pub mod Laws
+pub mod Examples

@@ -1,0 +1,12 @@
+pub mod Answer
+pub mod BinaryOp
+pub mod ErrorToken
+pub mod Flag
+pub mod Laws
+pub mod Node
+pub mod Refusal
+pub mod Report
+pub mod Token
+pub mod UnaryOp
+pub mod Value
+pub mod Words
