@@ -1,22 +1,25 @@
 -- Laws of what the public calls answer and leave, by case.
 use mathlib.Core.Path.{_≡_, refl, sym, _∙_, ap}
 use mathlib.Core.List.{List, [], _∷_, _++_, map}
-use mathlib.Core.Bool.{true, false}
+use mathlib.Core.Bool.{Bool, true, false, cond}
 use Prim.Native.Nat.{ℕ, zero, suc, _+_, _-_, _≤_, _<_}
 use native.Mathlib.Omega.{arith}
 use native.Mathlib.Numerals.{sub-one}
-use borrow.Author.Tests.{lt-ltb, le-ltb, le-leb, lt-leb}
+use borrow.Author.Tests.{ltb-false, lt-ltb, le-ltb, le-leb, lt-leb}
+use lib.Dec.{ltb}
 use lib.ListN.{length, getD, take, drop, replicate, length-map}
 use lib.Seq.{sets, sets-eq, length-sets, take-at}
 use Rattle.words.specs.Refusal
 use Rattle.words.specs.Answer.{Answer, done, refused}
 use Rattle.words.specs.Words.{tokenEnd}
 use Rattle.utf8.specs.Utf8.{checked}
+use Rattle.utf8.specs.Laws.{bad-offset}
 use Rattle.utf8.specs.declared.Way.{Way}
+use Rattle.utf8.specs.declared.Checked.{Checked}
 use Rattle.utf8.specs.declared.Checked.the-variants.{Good, Bad}
 use Rattle.lexer.specs.Lexer.{tokensOf, word}
 use Rattle.lexer.specs.Lex.{longestText, notUtf8, lexed, lexedWords, startOf, spellingOf}
-use Rattle.lexer.specs.Walk.{cleared}
+use Rattle.lexer.specs.Walk.{cleared, tokens-count}
 
 cleared-all : (ws : List ℕ) → cleared ws 0 ≡ replicate (length ws) 0
 cleared-all ws = let e : length ws - 0 ≡ length ws = omega arith in ap (λ (n : ℕ). replicate n 0) e
@@ -107,3 +110,41 @@ module _ (text tokens : List ℕ) (n : ℕ) where
 pub start-next : (tokens : List ℕ) (n : ℕ) → (n ≡ 0 → ⊥) → tokenEnd (getD tokens (n - 1) 0) ≡ startOf tokens n
 start-next tokens zero h = absurd (h refl)
 start-next tokens (suc n) h = rw sub-one
+
+-- Whatever lexing answers, its values are small.
+data Small : Answer → Type 0 where
+  counted : {n : ℕ} → n ≤ 65537 → Small (done (n ∷ []))
+  placed : {number place : ℕ} → place ≤ 65537 → Small (refused number place)
+
+lexed-small : (text : List ℕ) (lent : ℕ) → Small (lexed text lent)
+unfolding lexed
+lexed-small text lent = long (ltb longestText (length text)) refl
+  where
+    fit : (t : Bool) → length text ≤ longestText
+        → Small (cond t (refused Refusal.TokensDontFit (length (tokensOf text))) (done (length (tokensOf text) ∷ [])))
+    fit true h = let f = tokens-count text in placed {place = length (tokensOf text)} (omega arith)
+    fit false h = let f = tokens-count text in counted {n = length (tokensOf text)} (omega arith)
+
+    good : (c : Checked) → checked text ≡ c → length text ≤ longestText
+        → Small (elim c [ Bad way at ↦ refused (notUtf8 way) at | Good ↦ cond (ltb lent (length (tokensOf text))) (refused Refusal.TokensDontFit (length (tokensOf text))) (done (length (tokensOf text) ∷ [])) ])
+    good Good e h = fit (ltb lent (length (tokensOf text))) h
+    good (Bad w o) e h = let f = bad-offset text w o e in placed {place = o} (omega arith)
+
+    long : (t : Bool) → ltb longestText (length text) ≡ t
+        → Small (cond t (refused Refusal.TooLong longestText) (elim (checked text) [ Bad way at ↦ refused (notUtf8 way) at | Good ↦ cond (ltb lent (length (tokensOf text))) (refused Refusal.TokensDontFit (length (tokensOf text))) (done (length (tokensOf text) ∷ [])) ]))
+    long true e = placed {place = longestText} (omega arith)
+    long false e = good (checked text) refl (ltb-false longestText (length text) e)
+
+pub count-small : (text : List ℕ) (lent n : ℕ) → done (n ∷ []) ≡ lexed text lent → n ≤ 65537
+count-small text lent n e = go (lexed-small text lent) e
+  where
+    go : {a : Answer} → Small a → done (n ∷ []) ≡ a → n ≤ 65537
+    go (counted {n = m} h) e = let f : n ≡ m = cc in omega arith
+    go (placed h) e = let z : _≡_ {A = ℕ} 0 1 = cc in omega arith
+
+pub place-small : (text : List ℕ) (lent number place : ℕ) → refused number place ≡ lexed text lent → place ≤ 65537
+place-small text lent number place e = go (lexed-small text lent) e
+  where
+    go : {a : Answer} → Small a → refused number place ≡ a → place ≤ 65537
+    go (counted h) e = let z : _≡_ {A = ℕ} 0 1 = cc in omega arith
+    go (placed {place = p} h) e = let f : place ≡ p = cc in omega arith

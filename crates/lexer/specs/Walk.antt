@@ -99,3 +99,14 @@ module _ (text lent ws : List ℕ) (at n : ℕ) (f : Filling text lent ws at n) 
   pub filling-last : (w : ℕ) (ws′ : List ℕ) → length text ≤ at → w ≡ word (ended TokenKind.Eof at) → ws′ ≡ set ws n w
       → (n + 1 ≡ length (tokensOf text)) × (ws′ ≡ sets lent 0 (map word (tokensOf text)))
   filling-last w ws′ h ew es = (rw (over text at h) at (f .count), es ∙ (rw ew (rw (over text at h) at (f .words))))
+
+-- A text has at most one token for each byte, and Eof.
+tokens-few : (s : List ℕ) (at k : ℕ) → length (tokensFrom at k s) ≤ suc (length s)
+unfolding tokensFrom
+tokens-few [] at k = omega arith
+tokens-few (b ∷ s) at zero = let h = tokens-few s (suc at) (pred (tokenAt (b ∷ s) .len)) in omega arith
+tokens-few (b ∷ s) at (suc k) = let h = tokens-few s (suc at) k in omega arith
+
+pub tokens-count : (text : List ℕ) → length (tokensOf text) ≤ suc (length text)
+unfolding tokensOf
+tokens-count text = tokens-few text 0 0

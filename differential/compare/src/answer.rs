@@ -1,0 +1,61 @@
+//! What a call answers and leaves in the lent slice, and what it should, by the reference.
+
+const MOST_BYTES: usize = 65_536;
+
+const NOT_UTF8: u32 = 1;
+const TOO_LONG: u32 = 2;
+const TOKENS_DONT_FIT: u32 = 4;
+
+#[derive(Debug, Clone, PartialEq, Eq)]
+pub struct Answer {
+    /// 0 where the call was done, else the refusal's number.
+    pub number: u32,
+    /// The count of tokens, or the refusal's place.
+    pub value: u32,
+    /// The whole lent slice.
+    pub words: Vec<u32>,
+    /// Is what stands before and behind the slice as it was?
+    pub stayed_inside: bool,
+}
+
+impl Answer {
+    fn done(tokens: &[u32], lent: usize) -> Answer {
+        let mut words = tokens.to_vec();
+        words.resize(lent, 0);
+        Answer { number: 0, value: tokens.len() as u32, words, stayed_inside: true }
+    }
+
+    fn refused(number: u32, place: usize, lent: usize) -> Answer {
+        Answer { number, value: place as u32, words: vec![0; lent], stayed_inside: true }
+    }
+}
+
+/// The token words of a text.
+pub type Lexer = fn(&str) -> Vec<u32>;
+
+/// What the reference says of a text, whatever the slice.
+pub enum Reference {
+    Refused { number: u32, place: usize },
+    Tokens(Vec<u32>),
+}
+
+impl Reference {
+    pub fn of(text: &[u8], lexer: Lexer) -> Reference {
+        if text.len() > MOST_BYTES {
+            return Reference::Refused { number: TOO_LONG, place: MOST_BYTES };
+        }
+        match str::from_utf8(text) {
+            Ok(text) => Reference::Tokens(lexer(text)),
+            Err(error) => Reference::Refused { number: NOT_UTF8, place: error.valid_up_to() },
+        }
+    }
+
+    /// The answer where so many words are lent.
+    pub fn answer(&self, lent: usize) -> Answer {
+        match self {
+            Reference::Refused { number, place } => Answer::refused(*number, *place, lent),
+            Reference::Tokens(tokens) if tokens.len() <= lent => Answer::done(tokens, lent),
+            Reference::Tokens(tokens) => Answer::refused(TOKENS_DONT_FIT, tokens.len(), lent),
+        }
+    }
+}

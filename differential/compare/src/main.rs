@@ -1,0 +1,24 @@
+//! Compares the library with the reference, text by text.
+
+mod answer;
+mod check;
+mod fault;
+mod library;
+mod options;
+mod record;
+mod run;
+mod shrink;
+
+use options::Command;
+use std::{env, process::ExitCode};
+
+fn main() -> ExitCode {
+    match Command::read(env::args().skip(1)) {
+        Ok(Command::Lex(options)) => run::lex(&options),
+        Ok(Command::Record { file }) => record::write(&file),
+        Err(message) => {
+            eprintln!("{message}\n{}", options::USAGE);
+            ExitCode::from(2)
+        }
+    }
+}

@@ -1,0 +1,52 @@
+//! The command line.
+
+use std::path::PathBuf;
+
+pub const USAGE: &str = "compare lex [--texts N] [--seed S] [--plant]\ncompare record FILE";
+
+#[derive(Debug, PartialEq)]
+pub enum Command {
+    Lex(LexOptions),
+    Record { file: PathBuf },
+}
+
+#[derive(Debug, PartialEq)]
+pub struct LexOptions {
+    /// How many texts are generated, besides all short ones.
+    pub texts: usize,
+    pub seed: u64,
+    /// Run against a reference with a planted fault.
+    pub plant: bool,
+}
+
+impl Command {
+    pub fn read(mut arguments: impl Iterator<Item = String>) -> Result<Command, String> {
+        match arguments.next().as_deref() {
+            Some("lex") => Ok(Command::Lex(LexOptions::read(arguments)?)),
+            Some("record") => {
+                let file = arguments.next().ok_or("record needs a file")?;
+                Ok(Command::Record { file: PathBuf::from(file) })
+            }
+            _ => Err("no such command".to_string()),
+        }
+    }
+}
+
+impl LexOptions {
+    fn read(mut arguments: impl Iterator<Item = String>) -> Result<LexOptions, String> {
+        let mut options = LexOptions { texts: 100_000, seed: 1, plant: false };
+        while let Some(argument) = arguments.next() {
+            match argument.as_str() {
+                "--texts" => options.texts = number(arguments.next())?,
+                "--seed" => options.seed = number(arguments.next())?,
+                "--plant" => options.plant = true,
+                _ => return Err(format!("no such option: {argument}")),
+            }
+        }
+        Ok(options)
+    }
+}
+
+fn number<N: std::str::FromStr>(argument: Option<String>) -> Result<N, String> {
+    argument.and_then(|digits| digits.parse().ok()).ok_or("a number is wanted".to_string())
+}

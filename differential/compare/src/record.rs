@@ -1,0 +1,90 @@
+//! Writes a fixed sample of the reference's tokens, for a replay by another program.
+//!
+//! All numbers are 4 bytes, least first: the number of records; then for each the length of
+//! the text, its bytes padded with 0 to a multiple of 4, the number of tokens, their words.
+
+use generate::{TOKENS, Texts};
+use std::{collections::HashSet, fs, path::Path, process::ExitCode};
+
+const RECORDS: usize = 400;
+const LONGEST_TEXT: usize = 1500;
+const SEED: u64 = 1;
+
+/// Corners that document 01 names, and ends of the text inside a token.
+const CORNERS: &[&str] = &[
+    "", "==>", "=>=", "<<=", "<</", "+%/", ":::", "&&&", "|||", "!==", ">>>/", "ifelse", "if_",
+    "if else", "iF", "Self self", "const a = 1;", "//", "//*\n*/", "// a\rb\nc", "// é\n", "/**/",
+    "/*/*/", "/***/", "/*/", "/**", "/* /* */", "/*/**/*/a", "/* // */ b", "/*é*/木", "0xg",
+    "0x1g", "0b12", "00_1_", "0x_", "1_000a", "0b1_0_", "1é", "1.5", "@", "@@a", "@1", "@é", "@if",
+    "\"", "\"\\", "\"\\\"", "\"\\é\"", "\"\\\r\n\"", "\"a\r\"b", "\"a\n", "\"é木\"", "hex\"\\\"",
+    "hex\"a\nb\"", "hex\"\n", "hex \"\"", "hexx\"\"", "ahex\"\"", "\"\" hex\"4\"", "é木\u{10ffff}",
+    "\u{feff}a", "\u{a0}\u{2028}", "\0\x0b\x0c\x7f", " \t\r\n",
+];
+
+pub fn write(file: &Path) -> ExitCode {
+    let texts = sample();
+    let bytes = encode(&texts);
+    match fs::write(file, &bytes) {
+        Ok(()) => {
+            println!("{} records, {} bytes", texts.len(), bytes.len());
+            ExitCode::SUCCESS
+        }
+        Err(error) => {
+            eprintln!("{}: {error}", file.display());
+            ExitCode::FAILURE
+        }
+    }
+}
+
+/// The corners, each spelling of a token alone, and generated texts that are not too long,
+/// each text once.
+fn sample() -> Vec<String> {
+    let generated = Texts::new(SEED)
+        .filter(|text| text.len() <= LONGEST_TEXT)
+        .filter_map(|text| String::from_utf8(text).ok());
+    let chosen = CORNERS.iter().chain(TOKENS).map(|text| text.to_string());
+    let mut seen = HashSet::new();
+    chosen.chain(generated).filter(|text| seen.insert(text.clone())).take(RECORDS).collect()
+}
+
+fn encode(texts: &[String]) -> Vec<u8> {
+    let mut bytes = number(texts.len()).to_vec();
+    for text in texts {
+        let tokens = oracle::lex(text);
+        bytes.extend(number(text.len()));
+        bytes.extend(text.as_bytes());
+        bytes.resize(bytes.len().next_multiple_of(4), 0);
+        bytes.extend(number(tokens.len()));
+        bytes.extend(tokens.iter().flat_map(|word| word.to_le_bytes()));
+    }
+    bytes
+}
+
+fn number(value: usize) -> [u8; 4] {
+    (value as u32).to_le_bytes()
+}
+
+#[cfg(test)]
+mod tests {
+    use super::*;
+
+    #[test]
+    fn the_sample_has_every_kind_of_token() {
+        let kinds: HashSet<u32> =
+            sample().iter().flat_map(|text| oracle::lex(text)).map(|word| word >> 25).collect();
+        assert_eq!(kinds, (0..=81).collect());
+    }
+
+    #[test]
+    fn the_sample_is_small() {
+        assert_eq!(sample().len(), RECORDS);
+        assert!(encode(&sample()).len() <= 150_000);
+    }
+
+    #[test]
+    fn a_record() {
+        let expected = [1, 5, 0x6c65_7322, 0x22, 2, 70 << 25 | 5, 81 << 25 | 5];
+        let expected: Vec<u8> = expected.iter().flat_map(|word: &u32| word.to_le_bytes()).collect();
+        assert_eq!(encode(&["\"sel\"".to_string()]), expected);
+    }
+}

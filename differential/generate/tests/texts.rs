@@ -1,0 +1,60 @@
+use generate::{Rng, TOKENS, Texts, script, short_byte_texts, short_texts, texts_around_the_limit};
+use std::collections::HashSet;
+
+const EOF: u32 = 81;
+
+fn token_kinds(text: &str) -> impl Iterator<Item = u32> {
+    oracle::lex(text).into_iter().map(|word| word >> 25)
+}
+
+#[test]
+fn scripts_are_free_of_reports() {
+    let mut rng = Rng::new(1);
+    for _ in 0..2000 {
+        let text = script(&mut rng);
+        let words = oracle::try_read(&text).expect("no panic of the reference");
+        assert_eq!(words.reports, [], "{text}");
+    }
+}
+
+#[test]
+fn a_seed_gives_the_same_texts() {
+    let texts = |seed| Texts::new(seed).take(500).collect::<Vec<_>>();
+    assert_eq!(texts(7), texts(7));
+    assert_ne!(texts(7), texts(8));
+}
+
+#[test]
+fn tokens_cover_every_kind() {
+    let kinds: HashSet<u32> = TOKENS.iter().flat_map(|token| token_kinds(token)).collect();
+    assert_eq!(kinds, (0..=EOF).collect());
+}
+
+#[test]
+fn texts_are_of_all_sorts() {
+    let texts: Vec<Vec<u8>> = Texts::new(1).take(5000).collect();
+    let strings: Vec<&str> = texts.iter().filter_map(|text| str::from_utf8(text).ok()).collect();
+    assert!(texts.len() - strings.len() > 200, "not UTF-8");
+    let kinds: HashSet<u32> = strings.iter().flat_map(|text| token_kinds(text)).collect();
+    assert_eq!(kinds, (0..=EOF).collect());
+}
+
+#[test]
+fn the_limit_is_met_from_both_sides() {
+    let lengths: HashSet<usize> = texts_around_the_limit().map(|text| text.len()).collect();
+    assert!(lengths.contains(&65_536) && lengths.contains(&65_537));
+    let is_bad = |text: &Vec<u8>| str::from_utf8(text).is_err();
+    assert!(texts_around_the_limit().any(|text| text.len() > 65_536 && is_bad(&text)));
+    assert!(texts_around_the_limit().any(|text| text.len() == 65_536 && !is_bad(&text)));
+}
+
+#[test]
+fn short_texts_are_all_there() {
+    let characters = 1 + 136 + 136_usize.pow(2) + 99_usize.pow(3) + 36_usize.pow(4);
+    assert_eq!(short_texts().count(), characters);
+    let bytes = 1 + 256 + 256_usize.pow(2) + 24_usize.pow(3) + 24_usize.pow(4);
+    assert_eq!(short_byte_texts().count(), bytes);
+    for text in ["", "é", "==>", "hex\"", "0b1_", "//\r;", "/**/"] {
+        assert!(short_texts().any(|short| short == text.as_bytes()), "{text:?}");
+    }
+}

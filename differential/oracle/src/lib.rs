@@ -1,0 +1,8 @@
+//! The reference, compiled over stand-ins, and its answers as the words of document 01.
+
+// The seven files of the reference: modules ast, cst, lexer and parser.
+include!(concat!(env!("OUT_DIR"), "/modules.rs"));
+
+mod words;
+
+pub use words::{Words, lex, read, try_read};

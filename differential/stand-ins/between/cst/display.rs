@@ -1,0 +1,1 @@
+// Stand-in for cst/display.rs, which only prints trees.

@@ -1,0 +1,12 @@
+//! Stand-in for `plank_core`: index types, vectors addressed by them, spans, number values.
+
+pub mod bigint;
+pub mod const_print;
+mod idx;
+mod index_vec;
+pub mod list_of_lists;
+mod span;
+
+pub use idx::Idx;
+pub use index_vec::IndexVec;
+pub use span::Span;
