@@ -1,0 +1,68 @@
+-- Worked cases of document 01.
+use mathlib.Core.Path.{_≡_, refl}
+use mathlib.Core.List.{List, [], _∷_, _++_}
+use Prim.Native.Nat.{ℕ}
+use Prim.Native.Char.{code}
+use Prim.Native.String
+use Prim.Native.String.{String}
+use lib.ListN.{replicate}
+use Rattle.words.specs.Token
+use Rattle.words.specs.Node
+use Rattle.words.specs.Refusal
+use Rattle.words.specs.Words.{pack, tokenWord, nodeWords, valueHead}
+use Rattle.words.specs.Answer as Answer
+use Rattle.definition.specs.Prog.{memory}
+use Rattle.definition.specs.Parse.{Parsed}
+use Rattle.definition.specs.Computed.{computed}
+
+abbrev ascii : String → List ℕ
+ascii String.[] = []
+ascii (String._∷_ c s) = code c ∷ ascii s
+
+abbrev node : ℕ → ℕ → ℕ → ℕ → ℕ → ℕ → List ℕ
+node kind payload first end next child = nodeWords (record { kind = kind; payload = payload; first = first; end = end; next = next; child = child })
+
+-- P1: "empty text: Eof, File 0 to 0".
+p1 : computed [] (tokenWord Token.Eof 0 ∷ []) 7 0 0 ≡ record { answer = Answer.done (1 ∷ 0 ∷ 0 ∷ []); words = memory (node Node.File 0 0 0 0 0 ++ (0 ∷ 0 ∷ [])) [] [] }
+unfolding computed pack
+p1 = refl
+
+-- `const a = 1;`
+const-a : (nodes values : ℕ) → Parsed
+const-a nodes values =
+    computed (ascii "const a = 1;")
+    (tokenWord Token.Const 5
+    ∷ tokenWord Token.Whitespace 6
+    ∷ tokenWord Token.Identifier 7
+    ∷ tokenWord Token.Whitespace 8
+    ∷ tokenWord Token.Equals 9
+    ∷ tokenWord Token.Whitespace 10
+    ∷ tokenWord Token.DecimalLiteral 11
+    ∷ tokenWord Token.Semicolon 12
+    ∷ tokenWord Token.Eof 12
+    ∷ [])
+    nodes
+    values
+    0
+
+-- "0 0 0 0 8 0 1", "1 1 0 0 8 0 2", "2 36 2 2 3 3 0", "3 33 0 6 7 0 0"
+tree : const-a 20 2
+    ≡ record {
+      answer = Answer.done (4 ∷ 2 ∷ 0 ∷ []);
+      words = memory
+          (node Node.File 0 0 8 0 1 ++ (node Node.ConstDecl 0 0 8 0 2 ++ (node Node.Identifier 2 2 3 3 0 ++ node Node.NumLiteral 0 6 7 0 0)))
+          (valueHead 1 1 ∷ 1 ∷ [])
+          [];
+    }
+unfolding const-a computed pack
+tree = refl
+
+-- The value comes before the node, and both after the number's token.
+no-room : (const-a 15 1 .answer ≡ Answer.refused Refusal.ValuesDontFit 7) × (const-a 15 2 .answer ≡ Answer.refused Refusal.NodesDontFit 7)
+unfolding const-a computed pack
+no-room = (refl, refl)
+
+-- "Output slices are all 0."
+all-zero : const-a 15 2 .words ≡ memory (replicate 15 0) (replicate 2 0) []
+unfolding const-a computed pack
+all-zero = refl

@@ -1,0 +1,14 @@
+pub mod Prog
+pub mod Tokens
+pub mod Nodes
+pub mod Strings
+pub mod Expressions
+pub mod Statements
+pub mod Declarations
+pub mod Parse
+pub mod Computed
+pub mod Examples
+pub mod Mono
+pub mod Progress
+pub mod Bound
+pub mod Quiet

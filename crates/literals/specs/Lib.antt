@@ -1,0 +1,5 @@
+pub mod Spelling
+pub mod Numbers
+pub mod Strings
+pub mod Laws
+pub mod Examples

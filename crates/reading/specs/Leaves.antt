@@ -1,0 +1,45 @@
+-- Laws of the leaves: what a command's run is, by case.
+use mathlib.Core.Path.{_≡_, refl, sym, _∙_, ap}
+use mathlib.Core.List.{List, [], _∷_}
+use mathlib.Core.Bool.{Bool, true, false}
+use Prim.Native.Nat.{ℕ, suc, _+_, _*_, _/_, _≤_, _<_}
+use native.Mathlib.Omega.{arith}
+use native.Mathlib.Numerals.{towards-suc}
+use borrow.Author.Tests.{le-leb, lt-leb}
+use lib.Dec.{leb}
+use lib.ListN.{length, set, getD}
+use lib.Seq.{sets}
+use Rattle.words.specs.Refusal
+use Rattle.words.specs.Words.{reportWidth, reportWords}
+use Rattle.literals.specs.declared.Span.{Span}
+use Rattle.literals.specs.Spelling.{span}
+use Rattle.definition.specs.declared.State.{State}
+use Rattle.definition.specs.Prog.{Prog, emit, Memory, memory, Out, done, refused, eval, reported, withReports}
+use Rattle.reading.specs.declared.Reading.{Reading}
+use Rattle.reading.specs.Does.{Does, run, refusedAt, goes, halts}
+
+pub reported-full : (kind detail : ℕ) (p : Span) (s : State) (m : Memory) → length (m .reports) < reportWidth * s .reports + reportWidth
+    → reported kind detail p s m ≡ refused Refusal.ReportsDontFit (s .cursor .at)
+unfolding reported
+reported-full kind detail p s m h = rw (lt-leb (reportWidth * s .reports + reportWidth) (length (m .reports)) h, reported)
+
+pub reported-fits : (kind detail : ℕ) (p : Span) (s : State) (m : Memory) → reportWidth * s .reports + reportWidth ≤ length (m .reports)
+    → reported kind detail p s m
+    ≡ done tt (withReports (s .reports + 1) s)
+    (memory (m .nodes) (m .values) (sets (m .reports) (reportWidth * s .reports) (reportWords (record { kind = kind; detail = detail; start = p .start; end = p .end }))))
+unfolding reported
+reported-fits kind detail p s m h = rw (le-leb (reportWidth * s .reports + reportWidth) (length (m .reports)) h, reported)
+
+module _ (text tokens : List ℕ) (d : ℕ) (r : Reading) (ns vs rs : List ℕ) (h : r .refusal ≡ 0) (kind detail start end : ℕ) where
+  abbrev p : Span
+  p = span start end
+
+  pub emit-full : length rs / 3 ≤ r .state .reports → Does text tokens d (emit kind detail p) r (memory ns vs rs) tt (refusedAt r Refusal.ReportsDontFit) (memory ns vs rs)
+  emit-full g = halts h (λ e. omega arith) (unfold eval in (reported-full kind detail p (r .state) (memory ns vs rs) (omega arith)))
+
+  pub emit-fits : (r′ : Reading) (ws : List ℕ) → r .state .reports < length rs / 3 → r′ .refusal ≡ 0 → r′ .state ≡ withReports (r .state .reports + 1) (r .state)
+      → ws ≡ reportWords (record { kind = kind; detail = detail; start = start; end = end })
+      → Does text tokens d (emit kind detail p) r (memory ns vs rs) tt r′
+      (memory ns vs (set (set (set rs (3 * r .state .reports) (getD ws 0 0)) (3 * r .state .reports + 1) (getD ws 1 0)) (3 * r .state .reports + 2) (getD ws 2 0)))
+  emit-fits r′ ws g k e f =
+      goes h k (unfold eval in (reported-fits kind detail p (r .state) (memory ns vs rs) (omega arith) ∙ (rw (e, f) (simp towards-suc))))

@@ -1,0 +1,58 @@
+// What the parser's functions hand on: where reading stands, and what they answer.
+ghost use mathlib.Core.Path.{_≡_};
+ghost use Prim.Native.Nat.{_<_};
+ghost use Rattle.reading.specs.Does.{refusedAt};
+
+pub mod report;
+
+use definition::State;
+use definition::Unfinished;
+
+// Where reading stands, and whether it was refused: a refusal's number, or 0, and its place. Once refused, it stays so:
+// each function then changes nothing that counts, so a reader needs no way out after each call.
+pub struct Reading {
+    pub state: State,
+    pub refusal: u32,
+    pub place: u32,
+}
+
+// What may be missing.
+pub enum Maybe {
+    Some(u32),
+    None,
+}
+
+// What a function answers, and where reading then stands: a number (a node's, a token's kind), a test, a node that may be
+// missing, a node that is still open.
+pub struct Got {
+    pub it: u32,
+    pub at: Reading,
+}
+
+pub struct Told {
+    pub is: bool,
+    pub at: Reading,
+}
+
+pub struct Found {
+    pub it: Maybe,
+    pub at: Reading,
+}
+
+pub struct Opened {
+    pub it: Unfinished,
+    pub at: Reading,
+}
+
+// A reading that is refused from here on.
+pub fn refuse(s: Reading, number: u32) -> Reading
+    ensures { λ r. ⌜ r ≡ refusedAt s number ⌝ }
+{
+    let state = s.state;
+    let cursor = state.cursor;
+    Reading {
+        state,
+        refusal: number,
+        place: cursor.at,
+    }
+}

@@ -1,0 +1,77 @@
+-- `advance` meets its contract, by case.
+use mathlib.Core.Path.{sym, _∙_}
+use Rattle.stream.specs.Skip.{advance-plain, advance-marked, advance-told}
+use borrow.Author.Needs.{needs}
+use Rattle.stream.proofs.advance.Statement.{statement}
+use Rattle.stream.proofs.advance.Tie as tie
+
+advance-requires : tie.Need-advance-requires
+advance-requires c κs = search needs
+
+move-to-requires : tie.Need-move-to-requires
+move-to-requires c κs = search needs
+
+peek-requires : tie.Need-peek-requires
+peek-requires c κs = search needs
+
+lex-error-requires : tie.Need-lex-error-requires
+lex-error-requires c κs = search needs
+
+enum-told : tie.Need-enum-told
+enum-told c = search needs
+
+enum-known-error : tie.Need-enum-known-error
+enum-known-error c = search needs
+
+is-marked-requires : tie.Need-is-marked-requires
+is-marked-requires c κs = search needs
+
+returns : tie.Need-returns
+returns c = advance-marked _ _ _ _ _ _ _ _ (c .before .before .before .before .before .before .before .before .advance .ensures .0) (c .before .before .before .before .before .before .before .move-to .ensures) (c .before .before .before .before .before .before .peek .ensures) (c .before .before .before .before .before .lex-error .ensures) _ _ (c .before .before .before .error .given .1) (c .before .is-marked .ensures) (c .if1 .taken)
+
+token-start-requires : tie.Need-token-start-requires
+token-start-requires c κs = search needs
+
+token-end-requires : tie.Need-token-end-requires
+token-end-requires c κs = search needs
+
+emit-requires : tie.Need-emit-requires
+emit-requires c κs = search needs
+
+returns-2 : tie.Need-returns-2
+returns-2 c = advance-plain _ _ _ _ _ _ _ _ (c .before .before .before .before .before .advance .ensures .0) (c .before .before .before .before .move-to .ensures) (c .before .before .before .peek .ensures) (c .before .before .lex-error .ensures) (c .enum-told .given .1)
+
+same-length : tie.Need-same-length
+same-length c = search needs
+
+same-length-2 : tie.Need-same-length-2
+same-length-2 c = search needs
+
+same-length-3 : tie.Need-same-length-3
+same-length-3 c = search needs
+
+returns-3 : tie.Need-returns-3
+returns-3 c =
+    advance-told _ _ _ _ _ _ _ _ (c .before .before .before .before .before .before .before .before .before .before .before .before .before .before .before .before .before .before .before .before .advance .ensures .0) (c .before .before .before .before .before .before .before .before .before .before .before .before .before .before .before .before .before .before .before .move-to .ensures) (c .before .before .before .before .before .before .before .before .before .before .before .before .before .before .before .before .before .before .peek .ensures) (c .before .before .before .before .before .before .before .before .before .before .before .before .before .before .before .before .before .lex-error .ensures) _ _ _ _ _ _ _
+    (c .before .before .before .before .before .before .before .before .before .before .before .before .before .before .before .error .given .1) (c .before .before .before .before .before .before .before .before .before .before .before .before .before .is-marked .ensures) (c .before .before .before .before .before .before .before .before .before .before .before .before .if1 .left) (c .before .before .before .before .before .before .before .before .token-start .ensures) (c .before .before .before .before .before .before .before .token-end .ensures) (c .before .before .before .before .before .before .emit .ensures)
+
+pub advance-spec : {M : Type 1} → statement M
+advance-spec =
+    tie.close
+    (tie.spec
+    advance-requires
+    move-to-requires
+    peek-requires
+    lex-error-requires
+    enum-told
+    enum-known-error
+    is-marked-requires
+    returns
+    token-start-requires
+    token-end-requires
+    emit-requires
+    returns-2
+    same-length
+    same-length-2
+    same-length-3
+    returns-3)

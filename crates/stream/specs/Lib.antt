@@ -1,0 +1,3 @@
+pub mod Skip
+pub mod Trivia
+pub mod Commands

@@ -1,0 +1,517 @@
+// Tokens as the parser sees them: from `advance` to `skip_until_recovery_token` of parser/mod.rs.
+ghost use mathlib.Core.Path.{_≡_};
+ghost use mathlib.Core.Bool.{_&&_, _||_};
+ghost use Prim.Native.Nat.{pred};
+ghost use lib.Dec.{ltb};
+ghost use Rattle.definition.specs.Prog.{memory, passed, skipTrivia, isMarked, peek, pass, emitAndMark};
+ghost use Rattle.definition.specs.Tokens.{check, eat, eof, emitUnexpected, expect, contains, expectCheckRecovery, skipTurn, skipUntilRecoveryToken};
+ghost use Rattle.reading.specs.Does.{Does, view, from, turnsOf};
+ghost use Rattle.stream.specs.Skip.{moved};
+ghost use Rattle.stream.specs.Commands.{markHere, missing, turnIf};
+ghost use Rattle.words.specs.Words.{tokenEnd};
+ghost use Rattle.literals.specs.Spelling.{span, tokenStart, wordAt};
+use definition::Cursor;
+use definition::State;
+use reading::Got;
+use reading::Reading;
+use reading::Told;
+use reading::report;
+use words::token;
+use words::token::LexError;
+
+// The same with another cursor.
+fn move_to(s: Reading, cursor: Cursor) -> Reading
+    ensures { λ r. ⌜ r ≡ moved s cursor ⌝ }
+{
+    let state = s.state;
+    let next = State {
+        cursor,
+        mark: state.mark,
+        nodes: state.nodes,
+        values: state.values,
+        reports: state.reports,
+    };
+    Reading {
+        state: next,
+        refusal: s.refusal,
+        place: s.place,
+    }
+}
+
+// Where a token ends; 0 past the words.
+fn token_end(tokens: &[u32], i: u32) -> u32
+    ensures { λ r. ⌜ r ≡ tokenEnd (wordAt (now (tokens .entry)) i) ⌝ }
+{
+    let at = i as usize;
+    if at < tokens.len() {
+        return words::token_end(tokens[at]);
+    }
+    0
+}
+
+// Where a token starts: where the one before it ends.
+fn token_start(tokens: &[u32], i: u32) -> u32
+    ensures { λ r. ⌜ r ≡ tokenStart (now (tokens .entry)) i ⌝ }
+{
+    if i == 0 {
+        return 0;
+    }
+    token_end(tokens, i - 1)
+}
+
+// Where the token before one starts.
+fn before_start(tokens: &[u32], i: u32) -> u32
+    ensures { λ r. ⌜ r ≡ tokenStart (now (tokens .entry)) (pred i) ⌝ }
+{
+    if i == 0 {
+        return 0;
+    }
+    token_start(tokens, i - 1)
+}
+
+// Whether the mark is at the cursor's token: `at_last_unexpected`.
+fn is_marked(s: Reading) -> bool
+    ensures { λ r. ⌜ r ≡ isMarked (s .state) ⌝ }
+{
+    let state = s.state;
+    let cursor = state.cursor;
+    state.mark == (cursor.at as usize) + 1
+}
+
+// `advance`, where trivia was skipped before: the token at the cursor is passed, and reported where it is an error and
+// not marked.
+fn advance(
+    d: u32,
+    s: Reading,
+    text: &[u8],
+    tokens: &[u32],
+    nodes: &mut [u32],
+    values: &mut [u32],
+    reports: &mut [u32],
+) -> Reading
+    ensures { λ r. ⌜ view tt r (memory (now (nodes .exit)) (now (values .exit)) (now (reports .exit))) ≡ from s (memory (now (nodes .entry)) (now (values .entry)) (now (reports .entry))) (passed (now (text .entry)) (now (tokens .entry))) ⌝ }
+{
+    let state = s.state;
+    let cursor = state.cursor;
+    let next = move_to(s, cursor.advance());
+    match token::lex_error(cursor.peek(tokens)) {
+        LexError::Nothing => next,
+        LexError::Is(error) => {
+            if is_marked(s) {
+                return next;
+            }
+            let at = cursor.at;
+            report::emit(
+                d,
+                next,
+                text,
+                tokens,
+                nodes,
+                values,
+                reports,
+                words::report::LEXER_ERROR,
+                error,
+                token_start(tokens, at),
+                token_end(tokens, at),
+            )
+        }
+    }
+}
+
+// `skip_trivia`. The cursor passes blanks and comments by itself; error tokens are passed one by one, each with its report.
+fn skip_trivia(
+    d: u32,
+    s: Reading,
+    text: &[u8],
+    tokens: &[u32],
+    nodes: &mut [u32],
+    values: &mut [u32],
+    reports: &mut [u32],
+) -> Reading
+    ensures { λ r. ⌜ view tt r (memory (now (nodes .exit)) (now (values .exit)) (now (reports .exit))) ≡ from s (memory (now (nodes .entry)) (now (values .entry)) (now (reports .entry))) (skipTrivia (now (text .entry)) (now (tokens .entry))) ⌝ }
+{
+    let mut r = s;
+    while r.refusal == 0 {
+        let state = r.state;
+        let cursor = state.cursor;
+        let quiet = cursor.skip_trivia(tokens);
+        r = move_to(r, quiet);
+        if token::is_trivia(quiet.peek(tokens)) {
+            r = advance(d, r, text, tokens, nodes, values, reports);
+        } else {
+            return r;
+        }
+    }
+    r
+}
+
+// The kind of the next token that is no trivia.
+pub fn peek(
+    d: u32,
+    s: Reading,
+    text: &[u8],
+    tokens: &[u32],
+    nodes: &mut [u32],
+    values: &mut [u32],
+    reports: &mut [u32],
+) -> Got
+    ensures { λ r. ⌜ Does (now (text .entry)) (now (tokens .entry)) d peek s (memory (now (nodes .entry)) (now (values .entry)) (now (reports .entry))) (r .it) (r .at) (memory (now (nodes .exit)) (now (values .exit)) (now (reports .exit))) ⌝ }
+{
+    let at = skip_trivia(d, s, text, tokens, nodes, values, reports);
+    let state = at.state;
+    let cursor = state.cursor;
+    Got {
+        it: cursor.peek(tokens),
+        at,
+    }
+}
+
+// That token passed.
+pub fn pass(
+    d: u32,
+    s: Reading,
+    text: &[u8],
+    tokens: &[u32],
+    nodes: &mut [u32],
+    values: &mut [u32],
+    reports: &mut [u32],
+) -> Reading
+    ensures { λ r. ⌜ Does (now (text .entry)) (now (tokens .entry)) d pass s (memory (now (nodes .entry)) (now (values .entry)) (now (reports .entry))) tt r (memory (now (nodes .exit)) (now (values .exit)) (now (reports .exit))) ⌝ }
+{
+    let at = skip_trivia(d, s, text, tokens, nodes, values, reports);
+    advance(d, at, text, tokens, nodes, values, reports)
+}
+
+pub fn check(
+    d: u32,
+    s: Reading,
+    text: &[u8],
+    tokens: &[u32],
+    nodes: &mut [u32],
+    values: &mut [u32],
+    reports: &mut [u32],
+    token: u32,
+) -> Told
+    ensures { λ r. ⌜ Does (now (text .entry)) (now (tokens .entry)) d (check token) s (memory (now (nodes .entry)) (now (values .entry)) (now (reports .entry))) (r .is) (r .at) (memory (now (nodes .exit)) (now (values .exit)) (now (reports .exit))) ⌝ }
+{
+    let found = peek(d, s, text, tokens, nodes, values, reports);
+    let at = found.at;
+    Told {
+        is: found.it == token,
+        at,
+    }
+}
+
+pub fn eat(
+    d: u32,
+    s: Reading,
+    text: &[u8],
+    tokens: &[u32],
+    nodes: &mut [u32],
+    values: &mut [u32],
+    reports: &mut [u32],
+    token: u32,
+) -> Told
+    ensures { λ r. ⌜ Does (now (text .entry)) (now (tokens .entry)) d (eat token) s (memory (now (nodes .entry)) (now (values .entry)) (now (reports .entry))) (r .is) (r .at) (memory (now (nodes .exit)) (now (values .exit)) (now (reports .exit))) ⌝ }
+{
+    let found = check(d, s, text, tokens, nodes, values, reports, token);
+    let at = found.at;
+    if found.is {
+        let past = pass(d, at, text, tokens, nodes, values, reports);
+        return Told { is: true, at: past };
+    }
+    Told { is: false, at }
+}
+
+pub fn eof(
+    d: u32,
+    s: Reading,
+    text: &[u8],
+    tokens: &[u32],
+    nodes: &mut [u32],
+    values: &mut [u32],
+    reports: &mut [u32],
+) -> Told
+    ensures { λ r. ⌜ Does (now (text .entry)) (now (tokens .entry)) d eof s (memory (now (nodes .entry)) (now (values .entry)) (now (reports .entry))) (r .is) (r .at) (memory (now (nodes .exit)) (now (values .exit)) (now (reports .exit))) ⌝ }
+{
+    check(d, s, text, tokens, nodes, values, reports, token::EOF)
+}
+
+// The mark put at the cursor's token.
+fn mark(s: Reading) -> Reading
+    ensures { λ r. ⌜ r ≡ markHere s ⌝ }
+{
+    let state = s.state;
+    let cursor = state.cursor;
+    let next = State {
+        cursor,
+        mark: (cursor.at as usize) + 1,
+        nodes: state.nodes,
+        values: state.values,
+        reports: state.reports,
+    };
+    Reading {
+        state: next,
+        refusal: s.refusal,
+        place: s.place,
+    }
+}
+
+// A report on a part of the text, which puts the mark at the cursor's token.
+pub fn emit_and_mark(
+    d: u32,
+    s: Reading,
+    text: &[u8],
+    tokens: &[u32],
+    nodes: &mut [u32],
+    values: &mut [u32],
+    reports: &mut [u32],
+    kind: u32,
+    detail: u32,
+    start: u32,
+    end: u32,
+) -> Reading
+    ensures { λ r. ⌜ Does (now (text .entry)) (now (tokens .entry)) d (emitAndMark kind detail (span start end)) s (memory (now (nodes .entry)) (now (values .entry)) (now (reports .entry))) tt (r) (memory (now (nodes .exit)) (now (values .exit)) (now (reports .exit))) ⌝ }
+{
+    let marked = mark(s);
+    report::emit(
+        d,
+        marked,
+        text,
+        tokens,
+        nodes,
+        values,
+        reports,
+        kind,
+        detail,
+        start,
+        end,
+    )
+}
+
+// No second unexpected-token report is made at one token.
+pub fn emit_unexpected(
+    d: u32,
+    s: Reading,
+    text: &[u8],
+    tokens: &[u32],
+    nodes: &mut [u32],
+    values: &mut [u32],
+    reports: &mut [u32],
+) -> Reading
+    ensures { λ r. ⌜ Does (now (text .entry)) (now (tokens .entry)) d emitUnexpected s (memory (now (nodes .entry)) (now (values .entry)) (now (reports .entry))) tt (r) (memory (now (nodes .exit)) (now (values .exit)) (now (reports .exit))) ⌝ }
+{
+    if is_marked(s) {
+        return s;
+    }
+    let found = peek(d, s, text, tokens, nodes, values, reports);
+    let kind = found.it;
+    let at = found.at;
+    let state = at.state;
+    let cursor = state.cursor;
+    let i = cursor.at;
+    emit_and_mark(
+        d,
+        at,
+        text,
+        tokens,
+        nodes,
+        values,
+        reports,
+        words::report::UNEXPECTED,
+        kind,
+        token_start(tokens, i),
+        token_end(tokens, i),
+    )
+}
+
+pub fn expect(
+    d: u32,
+    s: Reading,
+    text: &[u8],
+    tokens: &[u32],
+    nodes: &mut [u32],
+    values: &mut [u32],
+    reports: &mut [u32],
+    token: u32,
+) -> Told
+    ensures { λ r. ⌜ Does (now (text .entry)) (now (tokens .entry)) d (expect token) s (memory (now (nodes .entry)) (now (values .entry)) (now (reports .entry))) (r .is) (r .at) (memory (now (nodes .exit)) (now (values .exit)) (now (reports .exit))) ⌝ }
+{
+    let eaten = eat(d, s, text, tokens, nodes, values, reports, token);
+    let at = eaten.at;
+    let is = eaten.is;
+    if is {
+        return Told { is, at };
+    }
+    let told = emit_unexpected(d, at, text, tokens, nodes, values, reports);
+    Told { is, at: told }
+}
+
+// Whether a token is one of a list.
+fn contains(list: &[u32], token: u32) -> bool
+    ensures { λ r. ⌜ r ≡ contains (now (list .entry)) token ⌝ }
+{
+    let mut i = 0;
+    while i < list.len() {
+        if token == list[i] {
+            return true;
+        }
+        i += 1;
+    }
+    false
+}
+
+// Whether a missing token is reported on what stands before: one of these comes next, and something stands before.
+fn is_missing(recovery: &[u32], token: u32, i: u32) -> bool
+    ensures { λ r. ⌜ r ≡ (contains (now (recovery .entry)) token && ltb 0 i) ⌝ }
+{
+    if contains(recovery, token) {
+        return 0 < i;
+    }
+    false
+}
+
+// The report that the wanted token is missing, or that another is there.
+fn emit_missing(
+    d: u32,
+    s: Reading,
+    text: &[u8],
+    tokens: &[u32],
+    nodes: &mut [u32],
+    values: &mut [u32],
+    reports: &mut [u32],
+    token: u32,
+    recovery: &[u32],
+) -> Reading
+    ensures { λ r. ⌜ Does (now (text .entry)) (now (tokens .entry)) d (missing token (now (recovery .entry))) s (memory (now (nodes .entry)) (now (values .entry)) (now (reports .entry))) tt (r) (memory (now (nodes .exit)) (now (values .exit)) (now (reports .exit))) ⌝ }
+{
+    let found = peek(d, s, text, tokens, nodes, values, reports);
+    let at = found.at;
+    let state = at.state;
+    let cursor = state.cursor;
+    let i = cursor.at;
+    if is_missing(recovery, found.it, i) {
+        let before = before_start(tokens, i);
+        return emit_and_mark(
+            d,
+            at,
+            text,
+            tokens,
+            nodes,
+            values,
+            reports,
+            words::report::MISSING_TOKEN,
+            token,
+            before,
+            token_start(tokens, i),
+        );
+    }
+    emit_unexpected(d, at, text, tokens, nodes, values, reports)
+}
+
+pub fn expect_check_recovery(
+    d: u32,
+    s: Reading,
+    text: &[u8],
+    tokens: &[u32],
+    nodes: &mut [u32],
+    values: &mut [u32],
+    reports: &mut [u32],
+    token: u32,
+    recovery: &[u32],
+) -> Told
+    ensures { λ r. ⌜ Does (now (text .entry)) (now (tokens .entry)) d (expectCheckRecovery token (now (recovery .entry))) s (memory (now (nodes .entry)) (now (values .entry)) (now (reports .entry))) (r .is) (r .at) (memory (now (nodes .exit)) (now (values .exit)) (now (reports .exit))) ⌝ }
+{
+    let eaten = eat(d, s, text, tokens, nodes, values, reports, token);
+    let at = eaten.at;
+    let is = eaten.is;
+    if is {
+        return Told { is, at };
+    }
+    if is_marked(at) {
+        return Told { is, at };
+    }
+    let told = emit_missing(d, at, text, tokens, nodes, values, reports, token, recovery);
+    Told { is, at: told }
+}
+
+// A loop has more turns than there are tokens.
+pub fn turns_of(tokens: &[u32]) -> usize
+    ensures { λ r. ⌜ r ≡ turnsOf (now (tokens .entry)) ⌝ }
+{
+    let n = tokens.len();
+    if n < 4294967295 {
+        return n + 1;
+    }
+    4294967296
+}
+
+pub struct Going {
+    pub on: bool,
+    pub at: Reading,
+}
+
+// Whether skipping ends at a token.
+fn is_end(ended: bool, recovery: &[u32], token: u32) -> bool
+    ensures { λ r. ⌜ r ≡ (ended || contains (now (recovery .entry)) token) ⌝ }
+{
+    if ended {
+        return true;
+    }
+    contains(recovery, token)
+}
+
+// One turn of the loop below: whether it goes on.
+fn skip_turn(
+    d: u32,
+    s: Reading,
+    text: &[u8],
+    tokens: &[u32],
+    nodes: &mut [u32],
+    values: &mut [u32],
+    reports: &mut [u32],
+    recovery: &[u32],
+) -> Going
+    ensures { λ r. ⌜ Does (now (text .entry)) (now (tokens .entry)) d (skipTurn (now (recovery .entry)) tt) s (memory (now (nodes .entry)) (now (values .entry)) (now (reports .entry))) (turnIf (r .on)) (r .at) (memory (now (nodes .exit)) (now (values .exit)) (now (reports .exit))) ⌝ }
+{
+    let ended = eof(d, s, text, tokens, nodes, values, reports);
+    let at = ended.at;
+    let found = peek(d, at, text, tokens, nodes, values, reports);
+    let next = found.at;
+    if is_end(ended.is, recovery, found.it) {
+        return Going {
+            on: false,
+            at: next,
+        };
+    }
+    let past = pass(d, next, text, tokens, nodes, values, reports);
+    Going { on: true, at: past }
+}
+
+pub fn skip_until_recovery_token(
+    d: u32,
+    s: Reading,
+    text: &[u8],
+    tokens: &[u32],
+    nodes: &mut [u32],
+    values: &mut [u32],
+    reports: &mut [u32],
+    recovery: &[u32],
+) -> Reading
+    ensures { λ r. ⌜ Does (now (text .entry)) (now (tokens .entry)) d (skipUntilRecoveryToken (now (recovery .entry))) s (memory (now (nodes .entry)) (now (values .entry)) (now (reports .entry))) tt (r) (memory (now (nodes .exit)) (now (values .exit)) (now (reports .exit))) ⌝ }
+{
+    let mut left = turns_of(tokens);
+    let mut at = s;
+    while 0 < left {
+        if at.refusal != 0 {
+            return at;
+        }
+        left -= 1;
+        let turn = skip_turn(d, at, text, tokens, nodes, values, reports, recovery);
+        at = turn.at;
+        if !turn.on {
+            break;
+        }
+    }
+    at
+}
