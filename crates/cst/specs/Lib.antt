@@ -1,0 +1,2 @@
+pub mod Cst
+pub mod Laws
