@@ -1,0 +1,60 @@
+-- `push` meets its contract, by case.
+use Rattle.values.specs.Numbers.{pushed-same, pushed-full, pushed-more}
+use mathlib.Core.Path.{sym}
+use lib.Seq.{length-take-le}
+use borrow.Author.Needs.{needs}
+use Rattle.values.proofs.number.push.Statement.{statement}
+use Rattle.values.proofs.number.push.Tie as tie
+
+slice-relend-prefix-times : tie.Need-slice-relend-prefix-times
+slice-relend-prefix-times c = search needs
+
+slice-aggregate-times : tie.Need-slice-aggregate-times
+slice-aggregate-times c = sym (length-take-le _ _ (c .before .before .pre))
+
+times-requires : tie.Need-times-requires
+times-requires c κs = search needs
+
+same-length : tie.Need-same-length
+same-length c = search needs
+
+returns : tie.Need-returns
+returns c = pushed-same _ _ _ _ (c .before .before .before .before .before .before .pre) _ _ (search needs) (c .before .before .before .times .ensures) (c .if1 .taken)
+
+same-length-2 : tie.Need-same-length-2
+same-length-2 c = search needs
+
+returns-2 : tie.Need-returns-2
+returns-2 c = pushed-full _ _ _ _ (c .before .before .before .before .before .before .before .pre) _ _ (search needs) (c .before .before .before .before .times .ensures) (c .before .if1 .left) (c .if2 .taken)
+
+mul-room : tie.Need-mul-room
+mul-room c = search needs
+
+slice-write-room : tie.Need-slice-write-room
+slice-write-room c = search needs
+
+add-t9 : tie.Need-add-t9
+add-t9 c = search needs
+
+same-length-3 : tie.Need-same-length-3
+same-length-3 c = search needs
+
+returns-3 : tie.Need-returns-3
+returns-3 c = pushed-more _ _ _ _ (c .before .before .before .before .before .before .before .pre) _ _ (search needs) (c .before .before .before .before .times .ensures) (c .before .if1 .left) (c .if2 .left)
+
+pub push-spec : {M : Type 1} → statement M
+push-spec =
+    tie.close
+    (tie.spec
+    slice-relend-prefix-times
+    slice-aggregate-times
+    times-requires
+    same-length
+    returns
+    same-length-2
+    returns-2
+    mul-room
+    slice-write-room
+    add-t9
+    same-length-3
+    returns-3)

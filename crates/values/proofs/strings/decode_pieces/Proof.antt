@@ -1,0 +1,59 @@
+-- `decode_pieces` meets its contract: what is decoded, and what is left, make the whole.
+use Prim.Native.Nat.{_-_}
+use lib.ListN.{length}
+use Rattle.definition.specs.Prog.{memory}
+use Rattle.values.specs.Chars.{events, events-over}
+use Rattle.values.specs.Decodes.{Walk, walk-first, walk-on, walk-last}
+use borrow.Author.Needs.{needs}
+use native.Mathlib.Omega.{arith}
+use Rattle.values.proofs.strings.decode_pieces.Statement.{statement}
+use Rattle.values.proofs.strings.decode_pieces.Tie as tie
+
+abbrev Inv-loop : tie.InvT-loop
+Inv-loop d text tokens nodes₀ values₀ reports₀ at w base so-far₀ i₀ nodes values reports so-far i = Walk text tokens d at (events base w 0) (so-far₀ .at) (so-far₀ .count) (memory nodes₀ values₀ reports₀) (events base w i) (so-far .at) (so-far .count) (memory nodes values reports)
+
+abbrev μ-loop : tie.MeasureT-loop
+μ-loop d text tokens nodes₀ values₀ reports₀ at w base so-far₀ i₀ nodes values reports so-far i = length w - i
+
+loop-holds : tie.Need-loop-holds Inv-loop μ-loop
+loop-holds c = walk-first _ _ _ _ _ _ _ _
+
+piece-at-requires : tie.Need-piece-at-requires Inv-loop μ-loop
+piece-at-requires c κs = search needs
+
+step-requires : tie.Need-step-requires Inv-loop μ-loop
+step-requires c κs = c .before .before .before .piece-at .ensures .small
+
+loop-less : tie.Need-loop-less Inv-loop μ-loop
+loop-less c = omega (arith, c .before .before .before .before .before .before .before .before .before .before .piece-at .ensures .on, c .before .before .before .before .before .before .before .before .before .before .piece-at .ensures .within)
+
+loop-again : tie.Need-loop-again Inv-loop μ-loop
+loop-again c = walk-on _ _ _ _ _ _ _ _ _ _ _ _ (c .before .before .before .before .before .before .before .before .before .before .before .before .loop .inv) _ _ _ _ _ (c .before .before .before .before .before .before .before .before .before .before .piece-at .ensures .is) (c .before .before .before .before .before .before .step .ensures) (c .before .before .before .before .before .nodes .given) (c .before .before .before .values .given) (c .before .reports .given)
+
+same-length : tie.Need-same-length Inv-loop μ-loop
+same-length c = c .before .loop .inv .nodes
+
+same-length-2 : tie.Need-same-length-2 Inv-loop μ-loop
+same-length-2 c = c .before .loop .inv .values
+
+same-length-3 : tie.Need-same-length-3 Inv-loop μ-loop
+same-length-3 c = c .before .loop .inv .reports
+
+returns : tie.Need-returns Inv-loop μ-loop
+returns c = walk-last _ _ _ _ _ _ _ _ _ _ _ _ (c .before .loop .inv) (events-over _ _ _ (c .loop-test .left))
+
+pub decode-pieces-spec : {M : Type 1} → statement M
+decode-pieces-spec =
+    tie.close
+    (tie.spec
+    Inv-loop
+    μ-loop
+    loop-holds
+    piece-at-requires
+    step-requires
+    loop-less
+    loop-again
+    same-length
+    same-length-2
+    same-length-3
+    returns)

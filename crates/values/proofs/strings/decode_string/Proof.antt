@@ -1,0 +1,48 @@
+-- `decode_string` meets its contract: what stands between the quotes is decoded piece by piece.
+use Rattle.values.specs.Inside.{inside-fits, string-same}
+use lib.Dec.{lit<}
+use borrow.Author.Needs.{needs}
+use native.Mathlib.Omega.{arith}
+use Rattle.values.proofs.strings.decode_string.Statement.{statement}
+use Rattle.values.proofs.strings.decode_string.Tie as tie
+
+spelling-requires : tie.Need-spelling-requires
+spelling-requires c κs = search needs
+
+inside-requires : tie.Need-inside-requires
+inside-requires c κs = search needs
+
+token-start-requires : tie.Need-token-start-requires
+token-start-requires c κs = search needs
+
+add-decode-pieces : tie.Need-add-decode-pieces
+add-decode-pieces c = omega (arith, inside-fits _ _ _ 1 _ _ _ (c .before .before .before .before .before .spelling .ensures) (c .before .before .before .before .inside .ensures) (c .before .before .before .token-start .ensures) (lit< tt))
+
+decode-pieces-requires : tie.Need-decode-pieces-requires
+decode-pieces-requires c κs = inside-fits _ _ _ 1 _ _ _ (c .before .before .before .before .before .spelling .ensures) (c .before .before .before .before .inside .ensures) (c .before .before .before .token-start .ensures) (lit< tt)
+
+same-length : tie.Need-same-length
+same-length c = search needs
+
+same-length-2 : tie.Need-same-length-2
+same-length-2 c = search needs
+
+same-length-3 : tie.Need-same-length-3
+same-length-3 c = search needs
+
+returns : tie.Need-returns
+returns c = rw (← (string-same _ _ _ _ _ _ (c .before .before .before .before .before .before .before .before .before .before .before .before .spelling .ensures) (c .before .before .before .before .before .before .before .before .before .before .before .inside .ensures) (c .before .before .before .before .before .before .before .before .before .before .token-start .ensures))) (c .before .before .before .before .before .before .decode-pieces .ensures)
+
+pub decode-string-spec : {M : Type 1} → statement M
+decode-string-spec =
+    tie.close
+    (tie.spec
+    spelling-requires
+    inside-requires
+    token-start-requires
+    add-decode-pieces
+    decode-pieces-requires
+    same-length
+    same-length-2
+    same-length-3
+    returns)

@@ -1,0 +1,71 @@
+-- `string_value` meets its contract, by case.
+use Rattle.values.specs.StringValue.{string-stays, string-none, string-full, string-fits}
+use borrow.Author.Needs.{needs}
+use native.Mathlib.Omega.{arith}
+use Rattle.values.proofs.strings.string_value.Statement.{statement}
+use Rattle.values.proofs.strings.string_value.Tie as tie
+
+returns : tie.Need-returns
+returns c = string-stays _ _ _ _ _ _ _ _ (c .if1 .taken) _
+
+refuse-requires : tie.Need-refuse-requires
+refuse-requires c κs = search needs
+
+returns-2 : tie.Need-returns-2
+returns-2 c = string-none _ _ _ _ _ _ _ _ (c .before .before .if1 .left) _ (c .before .refuse .ensures) (c .if2 .taken)
+
+enum-known-count : tie.Need-enum-known-count
+enum-known-count c = search needs
+
+head-requires : tie.Need-head-requires
+head-requires c κs = search needs
+
+mul-values : tie.Need-mul-values
+mul-values c = omega (arith, c .before .before .before .before .before .before .before .before .before .before .before .before .before .before .good .1 .1 .1 .1 .1 .0 .1, c .before .before .before .before .if2 .left)
+
+slice-write-values : tie.Need-slice-write-values
+slice-write-values c = search needs
+
+add-past : tie.Need-add-past
+add-past c = omega (arith, c .before .before .before .before .before .before .before .before .before .before .before .before .before .before .good .1 .1 .1 .1 .1 .0 .1, c .before .before .before .before .if2 .left)
+
+words-of-requires : tie.Need-words-of-requires
+words-of-requires c κs = search needs
+
+add-past-2 : tie.Need-add-past-2
+add-past-2 c = omega (arith, c .before .before .before .before .before .before .before .before .before .before .before .before .before .before .before .good .1 .1 .1 .1 .1 .0 .1, c .before .before .before .before .before .if2 .left, c .words-of .ensures, c .before .before .known-told .given)
+
+past-requires : tie.Need-past-requires
+past-requires c κs = search needs
+
+enum-told : tie.Need-enum-told
+enum-told c = search needs
+
+same-length : tie.Need-same-length
+same-length c = search needs
+
+returns-3 : tie.Need-returns-3
+returns-3 c = string-fits _ _ _ _ _ _ _ _ (c .before .before .before .before .before .before .before .before .if1 .left) _ (c .before .before .before .before .count .given .1) (c .before .before .before .before .before .before .if2 .left) _ (c .before .before .head .ensures) _ (c .before .words-of .ensures) _ (c .past .ensures)
+
+returns-4 : tie.Need-returns-4
+returns-4 c = string-full _ _ _ _ _ _ _ _ (c .before .before .before .before .if1 .left) _ (c .before .before .before .refuse .ensures) (c .enum-told .given .1)
+
+pub string-value-spec : {M : Type 1} → statement M
+string-value-spec =
+    tie.close
+    (tie.spec
+    returns
+    refuse-requires
+    returns-2
+    enum-known-count
+    head-requires
+    mul-values
+    slice-write-values
+    add-past
+    words-of-requires
+    add-past-2
+    past-requires
+    enum-told
+    same-length
+    returns-3
+    returns-4)

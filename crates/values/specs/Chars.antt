@@ -1,0 +1,90 @@
+-- The characters of a part of the text, by where they stand, and the pieces that decoding cuts them into.
+use mathlib.Core.Path.{_≡_, refl, sym, _∙_, ap}
+use mathlib.Core.Bool.{Bool, true, false}
+use mathlib.Core.Option.{Option, none, some}
+use mathlib.Core.List.{List, [], _∷_}
+use Prim.Native.Nat.{ℕ, zero, suc, _+_, _-_, _*_, _≤_, _<_}
+use native.Mathlib.Nat.{add-zero}
+use native.Mathlib.Omega.{arith}
+use native.Mathlib.Numerals.{add-one}
+use borrow.Author.Tests.{lt-ltb, le-ltb, eq-eqb, ne-eqb}
+use lib.Dec.{eqb, ltb}
+use lib.ListN.{length, getD, drop, length-drop, drop-of-length-le}
+use lib.Seq.{drop-cons, drop-drop}
+use Rattle.words.specs.Report
+use Rattle.utf8.specs.Utf8.{characterAt}
+use Rattle.utf8.specs.Laws.{CharacterFits, character-fits}
+use Rattle.utf8.specs.declared.Character.the-variants.{Is, Nothing}
+use Rattle.literals.specs.Spelling.{span}
+use Rattle.literals.specs.Numbers.{nibble}
+use Rattle.literals.specs.Strings.{Event, byte, report, Char, char, charactersFrom, isAscii, run, endAfter, Piece, piece, escape, twoDigits, escaped, decodedPiece, decodedFrom}
+
+-- Characters that are skipped in part start later.
+skipped : (at k : ℕ) (s : List ℕ) → charactersFrom at k s ≡ charactersFrom (at + k) 0 (drop k s)
+unfolding charactersFrom
+skipped at zero s = rw add-zero
+skipped at (suc k) [] = refl
+skipped at (suc k) (b ∷ s) =
+    let e : at + 1 + k ≡ at + suc k = omega arith in
+    skipped (at + 1) k s ∙ ap (λ (n : ℕ). charactersFrom n 0 (drop k s)) e
+
+-- The characters of the bytes `w`, which begin at the offset `base`, from byte `i` on, and what they decode to.
+abbrev pub chars : ℕ → List ℕ → ℕ → List Char
+chars base w i = charactersFrom (base + i) 0 (drop i w)
+
+abbrev pub events : ℕ → List ℕ → ℕ → List Event
+events base w i = decodedFrom 0 (chars base w i)
+
+-- A character stands at byte `i`, and the next one at byte `end`.
+pub record Standing (w : List ℕ) (i code end : ℕ) : Type 0 where
+  pub is : (base : ℕ) → chars base w i ≡ char code (base + i) (base + end) ∷ chars base w end
+  pub on : i < end
+  pub within : end ≤ length w
+
+module _ (w : List ℕ) (i : ℕ) (h : i < length w) where
+  abbrev b : ℕ
+  b = getD w i 0
+
+  abbrev s : List ℕ
+  s = drop (suc i) w
+
+  opened : drop i w ≡ b ∷ s
+  opened = drop-cons w i 0 h
+
+  -- What comes behind the n bytes of a character.
+  behind : (base n : ℕ) → 1 ≤ n → charactersFrom (base + i + 1) (n - 1) s ≡ chars base w (i + n)
+  behind base n g =
+      let e : base + i + 1 + (n - 1) ≡ base + (i + n) = omega arith in
+      let f : suc i + (n - 1) ≡ i + n = omega arith in
+      skipped (base + i + 1) (n - 1) s ∙ (rw (drop-drop (n - 1) (suc i) w, e, f))
+
+  pub standing-is : (c n : ℕ) → characterAt (drop i w) ≡ Is c n → Standing w i c (i + n)
+  unfolding charactersFrom
+  standing-is c n e =
+      let f = character-fits (drop i w) c n e in
+      let g : characterAt (b ∷ s) ≡ Is c n = rw opened at e in
+      let l = length-drop i w in
+      record {
+        is = λ base. rw (opened, g, charactersFrom) (rw (behind base n (f .some)) (ap (λ (k : ℕ). char c (base + i) k ∷ chars base w (i + n)) (omega arith)));
+        on = omega (arith, f .some);
+        within = omega (arith, f .within);
+      }
+
+  pub standing-byte : characterAt (drop i w) ≡ Nothing → Standing w i b (i + 1)
+  unfolding charactersFrom
+  standing-byte e =
+      let g : characterAt (b ∷ s) ≡ Nothing = rw opened at e in
+      record {
+        is = λ base. rw (opened, g, charactersFrom) (rw (behind base 1 (omega arith)) (ap (λ (k : ℕ). char b (base + i) k ∷ chars base w (i + 1)) (omega arith)));
+        on = omega arith;
+        within = omega arith;
+      }
+
+-- Nothing stands past the end.
+pub chars-over : (base : ℕ) (w : List ℕ) (i : ℕ) → length w ≤ i → chars base w i ≡ []
+unfolding charactersFrom
+chars-over base w i h = rw (drop-of-length-le w {i = i} h)
+
+pub events-over : (base : ℕ) (w : List ℕ) (i : ℕ) → length w ≤ i → events base w i ≡ []
+unfolding decodedFrom
+events-over base w i h = rw (chars-over base w i h)

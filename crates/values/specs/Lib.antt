@@ -1,0 +1,16 @@
+pub mod Limbs
+pub mod Numbers
+pub mod Digits
+pub mod Times
+pub mod Put
+pub mod Kept
+pub mod Spelled
+pub mod Number
+pub mod Names
+pub mod Chars
+pub mod Pieces
+pub mod Hex
+pub mod Fours
+pub mod Decodes
+pub mod Inside
+pub mod StringValue

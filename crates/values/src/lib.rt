@@ -1,0 +1,62 @@
+// Literal values and names: what number tokens, names and string tokens stand for.
+ghost use mathlib.Core.Path.{_≡_};
+ghost use Rattle.words.specs.Words.{valueHead};
+ghost use Rattle.values.specs.Kept.{pastWords};
+
+mod bytes;
+mod digit;
+pub mod names;
+pub mod number;
+pub mod strings;
+
+use definition::State;
+use reading::Reading;
+
+// The radix of a number token.
+pub enum Base {
+    Binary,
+    Decimal,
+    Hexadecimal,
+}
+
+// How many words were stored, or that there is no room for them.
+pub enum Count {
+    Words(usize),
+    DontFit,
+}
+
+// The offset of a value, and where reading then stands.
+pub struct Stored {
+    pub it: usize,
+    pub at: Reading,
+}
+
+// The counts that a value's first word can tell.
+const COUNTS: usize = 1073741824;
+
+// The first word of a value. What doesn't fit it is cut off.
+fn head(tag: u32, count: usize) -> u32
+    ensures { λ r. ⌜ r ≡ valueHead tag count ⌝ }
+{
+    words::value_head(tag, (count % COUNTS) as u32)
+}
+
+// A reading whose next value goes at `end`.
+fn past(s: Reading, end: usize) -> Reading
+    ensures { λ r. ⌜ r ≡ pastWords s end ⌝ }
+{
+    let state = s.state;
+    let cursor = state.cursor;
+    let next = State {
+        cursor,
+        mark: state.mark,
+        nodes: state.nodes,
+        values: end,
+        reports: state.reports,
+    };
+    Reading {
+        state: next,
+        refusal: s.refusal,
+        place: s.place,
+    }
+}

@@ -1,0 +1,140 @@
+// Number literals.
+ghost use mathlib.Core.Path.{_≡_};
+ghost use Prim.Native.Nat.{_+_, _*_, _≤_, _<_};
+ghost use lib.ListN.{length, take, drop};
+ghost use Rattle.literals.specs.Numbers.{limbs, digits, numberValue};
+ghost use Rattle.literals.specs.Spelling.{spelling};
+ghost use Rattle.definition.specs.Prog.{value, memory};
+ghost use Rattle.reading.specs.Does.{Does};
+ghost use Rattle.values.specs.Limbs.{multiplied, carried};
+ghost use Rattle.values.specs.Numbers.{radixOf, Pushed, Put};
+ghost use Rattle.values.specs.Kept.{Kept};
+use crate::Base;
+use crate::Count;
+use crate::Stored;
+use crate::digit;
+use reading::Maybe;
+use reading::Reading;
+
+// One limb is one word.
+const LIMB_BASE: u64 = 4294967296;
+
+fn wide(x: u32) -> u64
+    ensures { λ r. ⌜ r ≡ x ⌝ }
+{
+    x as u64
+}
+
+// Limbs, least first, times `radix` and `digit` more: what is carried past the last.
+fn times(limbs: &mut [u32], radix: u32, digit: u32) -> u32
+    ensures { λ r. ⌜ (r ≡ carried radix digit (now (limbs .entry))) × (now (limbs .exit) ≡ multiplied radix digit (now (limbs .entry))) ⌝ }
+{
+    let mut carry = digit;
+    let mut i = 0;
+    while i < limbs.len() {
+        let sum = wide(limbs[i]) * wide(radix) + wide(carry);
+        limbs[i] = (sum % LIMB_BASE) as u32;
+        carry = (sum / LIMB_BASE) as u32;
+        i += 1;
+    }
+    carry
+}
+
+// One digit more to the number whose `n` limbs stand in front of `room`.
+fn push(room: &mut [u32], n: usize, radix: u32, digit: u32) -> Count
+    requires { ⌜ n ≤ length (now room) ⌝ }
+    ensures { λ r. ⌜ Pushed radix digit (now (room .entry)) n r (now (room .exit)) ⌝ }
+{
+    let carry = times(&mut room[..n], radix, digit);
+    if carry == 0 {
+        return Count::Words(n);
+    }
+    if room.len() <= n {
+        return Count::DontFit;
+    }
+    room[n] = carry;
+    Count::Words(n + 1)
+}
+
+// The limbs of the number that the digits of `source` from `prefix` on make, in front of `room`. All that is no digit is
+// passed over.
+fn put(source: &[u8], prefix: usize, radix: u32, room: &mut [u32]) -> Count
+    requires { ⌜ 0 < radix ⌝ }
+    ensures { λ r. ⌜ Put (limbs (digits radix 0 (drop prefix (now (source .entry))))) (now (room .entry)) r (now (room .exit)) ⌝ }
+{
+    let mut n = 0;
+    let mut i = prefix;
+    while i < source.len() {
+        let c = source[i] as u32;
+        i += 1;
+        match digit::nibble(c) {
+            Maybe::Some(digit) => match push(room, n, radix, digit) {
+                Count::Words(m) => n = m,
+                Count::DontFit => return Count::DontFit,
+            },
+            Maybe::None => {}
+        }
+    }
+    Count::Words(n)
+}
+
+// The value of a number, stored from word `at` on: where it ends.
+fn store(values: &mut [u32], at: usize, source: &[u8], prefix: usize, radix: u32) -> Count
+    requires { ⌜ 0 < radix ⌝ }
+    ensures { λ r. ⌜ Kept (numberValue (digits radix 0 (drop prefix (now (source .entry))))) (now (values .entry)) at r (now (values .exit)) ⌝ }
+{
+    if values.len() <= at {
+        return Count::DontFit;
+    }
+    let start = at + 1;
+    match put(source, prefix, radix, &mut values[start..]) {
+        Count::Words(n) => {
+            values[at] = crate::head(words::value::NUMBER, n);
+            Count::Words(start + n)
+        }
+        Count::DontFit => Count::DontFit,
+    }
+}
+
+fn radix(base: Base) -> u32
+    ensures { λ r. ⌜ r ≡ radixOf base ⌝ }
+{
+    match base {
+        Base::Binary => 2,
+        Base::Decimal => 10,
+        Base::Hexadecimal => 16,
+    }
+}
+
+// The value of a number token, past the `prefix` of its spelling, stored where the next value goes.
+pub fn number(
+    d: u32,
+    s: Reading,
+    text: &[u8],
+    tokens: &[u32],
+    nodes: &mut [u32],
+    values: &mut [u32],
+    reports: &mut [u32],
+    token: u32,
+    base: Base,
+    prefix: usize,
+) -> Stored
+    ensures { λ r. ⌜ Does (now (text .entry)) (now (tokens .entry)) d (value (numberValue (digits (radixOf base) 0 (drop prefix (spelling (now (text .entry)) (now (tokens .entry)) token))))) s (memory (now (nodes .entry)) (now (values .entry)) (now (reports .entry))) (r .it) (r .at) (memory (now (nodes .exit)) (now (values .exit)) (now (reports .exit))) ⌝ }
+{
+    let state = s.state;
+    let at = state.values;
+    if s.refusal != 0 {
+        return Stored { it: at, at: s };
+    }
+    let source = lexer::spelling(text, tokens, token as usize);
+    match store(values, at, source, prefix, radix(base)) {
+        Count::Words(end) => {
+            let then = crate::past(s, end);
+            Stored { it: at, at: then }
+        }
+        Count::DontFit => {
+            let full = reading::refuse(s, words::refusal::VALUES_DONT_FIT);
+            Stored { it: at, at: full }
+        }
+    }
+}
