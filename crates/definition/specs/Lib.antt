@@ -12,3 +12,4 @@ pub mod Mono
 pub mod Progress
 pub mod Bound
 pub mod Quiet
+pub mod Lengths
