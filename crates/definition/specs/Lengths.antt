@@ -21,7 +21,7 @@ use Rattle.literals.specs.declared.Span.{Span}
 use Rattle.literals.specs.Spelling as Source
 use Rattle.definition.specs.declared.State.{State}
 use Rattle.definition.specs.declared.Mode.{Mode}
-use Rattle.definition.specs.Prog.{Turn, again, stop, Prog, Give, Then, Branch, Loop, peek, pass, position, here, before, spelling, intern, marked, emit, emitAndMark, alloc, closeAt, closeAtStart, setKind, link, kindOf, value, enterExpr, enterBlock, Memory, memory, Out, done, refused, bind, withCursor, withNodes, withValues, withReports, advanced, reported, isMarked, markedHere, lastNode, allocated, wordOf, stored, linked, childWord, nextWord, endWord, firstWord, headWord, valued, iter, Readers, kindAt, passed, skipped, eval, tower}
+use Rattle.definition.specs.Prog.{Turn, again, stop, Prog, Give, Then, Branch, Loop, peek, pass, position, here, before, spelling, intern, marked, emit, emitAndMark, alloc, closeAt, closeAtStart, setKind, link, kindOf, value, enterExpr, enterBlock, Memory, memory, Out, done, refused, bind, withCursor, advanced, reported, isMarked, markedHere, lastNode, allocated, wordOf, stored, linked, childWord, nextWord, endWord, firstWord, headWord, valued, iter, Readers, kindAt, passed, skipped, eval, tower}
 use Rattle.definition.specs.Expressions.{tryParseExprMinBp}
 use Rattle.definition.specs.Statements.{parseBlock}
 use Rattle.definition.specs.Declarations.{parseFile}

@@ -10,6 +10,8 @@ pub mod Computed
 pub mod Examples
 pub mod Mono
 pub mod Progress
+pub mod Proper
 pub mod Bound
 pub mod Quiet
 pub mod Lengths
+pub mod Local

@@ -87,11 +87,11 @@ module _ (text tokens : List ℕ) where
   unfolding reported
   reported-cursor k d p s m = one (leb (reportWidth * s .reports + reportWidth) (length (m .reports))) (λ _. yields refl) (λ _. halts)
 
-  allocated-cursor : (start k payload : ℕ) (s : State) (m : Memory) → Holds (λ _ t. t .cursor ≡ s .cursor) (allocated start k payload s m)
+  pub allocated-cursor : (start k payload : ℕ) (s : State) (m : Memory) → Holds (λ _ t. t .cursor ≡ s .cursor) (allocated start k payload s m)
   unfolding allocated
   allocated-cursor start k payload s m = one (ltb (s .nodes) lastNode && leb (nodeWidth * s .nodes + nodeWidth) (length (m .nodes))) (λ _. yields refl) (λ _. halts)
 
-  passed-cursor : (s : State) (m : Memory) → Holds (λ _ t. t .cursor ≡ advanced (s .cursor)) (passed text tokens s m)
+  pub passed-cursor : (s : State) (m : Memory) → Holds (λ _ t. t .cursor ≡ advanced (s .cursor)) (passed text tokens s m)
   unfolding passed
   passed-cursor s m = go (lexError (kind s))
     where
@@ -106,7 +106,7 @@ module _ (text tokens : List ℕ) where
       go Nothing = yields refl
       go (Is error) = one (isMarked s) (λ _. yields refl) (λ _. reported-cursor _ _ _ t m)
 
-  advanced-at : (c : Cursor) → c .at < c .end → advanced c ≡ record { at = c .at + 1; end = c .end }
+  pub advanced-at : (c : Cursor) → c .at < c .end → advanced c ≡ record { at = c .at + 1; end = c .end }
   unfolding advanced
   advanced-at c h = rw (lt-ltb (c .at) (c .end) h)
 
@@ -329,7 +329,7 @@ module _ (text tokens : List ℕ) where
 
     -- ---- tokens
 
-    checked : (j : ℕ) (s : State) (m : Memory) → Holds (λ b t. Ready t × (eqb (kind t) j ≡ b)) (eval text tokens bound r (check j) s m)
+    pub checked : (j : ℕ) (s : State) (m : Memory) → Holds (λ b t. Ready t × (eqb (kind t) j ≡ b)) (eval text tokens bound r (check j) s m)
     unfolding eval check
     checked j s m = onward (λ k t n. done (eqb k j) t n) (peeks s m) (λ k t n q. yields (q .0, ap (λ (i : ℕ). eqb i j) (sym (q .1))))
 
