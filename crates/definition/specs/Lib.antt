@@ -15,3 +15,6 @@ pub mod Bound
 pub mod Quiet
 pub mod Lengths
 pub mod Local
+pub mod Abstract
+pub mod Encodes
+pub mod Simulates

@@ -110,7 +110,7 @@ module _ (text tokens : List ℕ) where
   unfolding advanced
   advanced-at c h = rw (lt-ltb (c .at) (c .end) h)
 
-  eof-at : (c : Cursor) → c .end ≤ c .at → kindAt text tokens c ≡ Token.Eof
+  pub eof-at : (c : Cursor) → c .end ≤ c .at → kindAt text tokens c ≡ Token.Eof
   unfolding kindAt
   eof-at c h = rw (le-ltb (c .at) (c .end) h)
 

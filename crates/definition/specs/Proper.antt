@@ -564,21 +564,21 @@ parseFile-proper = search (rules, proper-loop declTurn declTurn-proper Progress.
 
 -- ---- what `Passes` and `Stays` say of a run
 
+pub kind-inside : (text tokens : List ℕ) (c : Cursor) → c .at < c .end → kindAt text tokens c ≡ tokenKind (Source.wordAt tokens (c .at))
+unfolding kindAt
+kind-inside text tokens c h = rw (lt-ltb (c .at) (c .end) h)
+
 module _ (text tokens : List ℕ) (bound : ℕ) (r : Readers) (calm : Steady r) (ahead : Forward text tokens r) where
   -- The token before the cursor is of the kind.
   abbrev pub Just : ℕ → State → Type 0
   Just k t = tokenKind (Source.wordAt tokens (pred (t .cursor .at))) ≡ k
-
-  kind-inside : (c : Cursor) → c .at < c .end → kindAt text tokens c ≡ tokenKind (Source.wordAt tokens (c .at))
-  unfolding kindAt
-  kind-inside c h = rw (lt-ltb (c .at) (c .end) h)
 
   passed-just : (k : ℕ) (s : State) (m : Memory) → T (not (eqb k Token.Eof)) → kindAt text tokens (s .cursor) ≡ k → Holds (λ _ t. Just k t) (passed text tokens s m)
   passed-just k s m e h =
       let l : s .cursor .at < s .cursor .end = Progress.not-eof text tokens (s .cursor) (rw h e) in
       weaken (λ _ t q.
       let z : t .cursor .at ≡ suc (s .cursor .at) = ap (λ (c : Cursor). c .at) (q ∙ Progress.advanced-at text tokens (s .cursor) l) ∙ add-one (s .cursor .at) in
-      rw z (sym (kind-inside (s .cursor) l) ∙ h)) (Progress.passed-cursor text tokens s m)
+      rw z (sym (kind-inside text tokens (s .cursor) l) ∙ h)) (Progress.passed-cursor text tokens s m)
 
   eat-passes : (k : ℕ) → T (not (eqb k Token.Eof)) → (s : State) (m : Memory) → Holds (λ b t. b ≡ true → Just k t) (eval text tokens bound r (eat k) s m)
   unfolding eval eat
