@@ -38,6 +38,11 @@ rowFrom tokens i (suc left) =
     let k = tokenKind (Source.wordAt tokens i) in
     seen (isTrivia k) (lexError k) i k (rowFrom tokens (suc i) left)
 
+-- From one row to what is left of it: only tokens that are read were passed.
+pub data Passed : List Seen → List Seen → Type 0 where
+  none-passed : {row : List Seen} → Passed row row
+  one-passed : {i k : ℕ} {row left : List Seen} → Passed row left → Passed (good i k ∷ row) left
+
 -- A node: its first three words, its children, the last one first, and one more than its parent's number (0: none).
 pub record Node : Type 0 where
   pub head : ℕ

@@ -37,12 +37,17 @@ use Rattle.definition.specs.Mono.{After, Steady, mono, steady, passed-la
 use Rattle.definition.specs.Progress as Progress
 use Rattle.definition.specs.Proper.{kind-inside}
 use Rattle.definition.specs.Quiet.{advanced-over}
-use Rattle.definition.specs.Abstract.{Seen, good, bad, stray, seen, rowFrom, Node, nodeAt, word, newNode, written, adopted, mayAdopt, World, Fate, ok, fail, deep, bindA, moveTo, withStore, withLink, withValue, wordIn, kindA, passA, skipA, iterA, ReadersA, evalA, towerA, startA, parsedA}
+use Rattle.definition.specs.Abstract.{Seen, good, bad, stray, Passed, none-passed, one-passed, seen, rowFrom, Node, nodeAt, word, newNode, written, adopted, mayAdopt, World, Fate, ok, fail, deep, bindA, moveTo, withStore, withLink, withValue, wordIn, kindA, passA, skipA, iterA, ReadersA, evalA, towerA, startA, parsedA}
 use Rattle.definition.specs.Encodes.{Plain, Encodes, place, written-length, written-none, plain-written, links-written, plain-new, links-new, adopted-length, plain-adopted, plain-set, both-true, links-adopted}
 
--- ---- the store and the values never shrink
+-- ---- the store and the values never shrink, and only tokens that are read are passed
+
+passed-on : {x y z : List Seen} → Passed x y → Passed y z → Passed x z
+passed-on none-passed q = q
+passed-on (one-passed p) q = one-passed (passed-on p q)
 
 pub record Larger (w u : World) : Type 0 where
+  pub row : Passed (w .row) (u .row)
   pub store : length (w .store) ≤ length (u .store)
   pub values : length (w .values) ≤ length (u .values)
 
@@ -55,10 +60,10 @@ abbrev pub Grow : {A : Type 0} → (World → Fate A) → Type 0
 Grow f = (w : World) → Grows w (f w)
 
 at-least : (w : World) → Larger w w
-at-least w = record { store = omega arith; values = omega arith }
+at-least w = record { row = none-passed; store = omega arith; values = omega arith }
 
 larger : {w u v : World} → Larger w u → Larger u v → Larger w v
-larger l k = record { store = omega arith; values = omega arith }
+larger l k = record { row = passed-on (l .row) (k .row); store = omega arith; values = omega arith }
 
 grows-on : {A : Type 0} {w u : World} {v : Fate A} → Larger w u → Grows u v → Grows w v
 grows-on l (grew k) = grew (larger l k)
@@ -83,25 +88,25 @@ unfolding iterA
 grows-iter body zero h x w = grew (at-least w)
 grows-iter body (suc k) h x w = grows-then _ (h x w) (λ t. grows-turn (iterA body k) t (grows-iter body k h))
 
-moves-on : (i : ℕ) (row : List Seen) (w : World) → Larger w (moveTo i row w)
-moves-on i row w = record { store = omega arith; values = omega arith }
+moves-on : (i : ℕ) (row : List Seen) (w : World) → Passed (w .row) row → Larger w (moveTo i row w)
+moves-on i row w h = record { row = h; store = omega arith; values = omega arith }
 
-grows-skip : (end : ℕ) (row : List Seen) → Grow (skipA end row)
+grows-skip : (end : ℕ) (row : List Seen) (w : World) → w .row ≡ row → Grows w (skipA end row w)
 unfolding skipA
-grows-skip end [] w = grew (moves-on _ _ w)
-grows-skip end (good i k ∷ row) w = grew (moves-on _ _ w)
-grows-skip end (bad i k ∷ row) w = grew (moves-on _ _ w)
-grows-skip end (stray ∷ row) w = gave-up
+grows-skip end [] w e = grew (moves-on end [] w (rw e none-passed))
+grows-skip end (good i k ∷ row) w e = grew (moves-on i (good i k ∷ row) w (rw e none-passed))
+grows-skip end (bad i k ∷ row) w e = grew (moves-on i (bad i k ∷ row) w (rw e none-passed))
+grows-skip end (stray ∷ row) w e = gave-up
 
-grows-pass : (row : List Seen) → Grow (passA row)
+grows-pass : (row : List Seen) (w : World) → w .row ≡ row → Grows w (passA row w)
 unfolding passA
-grows-pass [] w = grew (at-least w)
-grows-pass (good i k ∷ row) w = grew (moves-on _ _ w)
-grows-pass (bad i k ∷ row) w = gave-up
-grows-pass (stray ∷ row) w = gave-up
+grows-pass [] w e = grew (at-least w)
+grows-pass (good i k ∷ row) w e = grew (moves-on (suc i) row w (rw e (one-passed none-passed)))
+grows-pass (bad i k ∷ row) w e = gave-up
+grows-pass (stray ∷ row) w e = gave-up
 
 stores : (st : List Node) (w : World) → length (w .store) ≤ length st → Larger w (withStore st w)
-stores st w h = record { store = h; values = omega arith }
+stores st w h = record { row = none-passed; store = h; values = omega arith }
 
 pub record Growing (r : ReadersA) : Type 0 where
   pub exprs : (mode : Mode) (min : ℕ) → Grow (r .expr mode min)
@@ -115,8 +120,8 @@ module _ (text tokens : List ℕ) (end : ℕ) where
     grows (Then p f) w = grows-then (λ a u. evalA text tokens end bound r (f a) u) (grows p w) (λ a u. grows (f a) u)
     grows (Branch b p q) w = grows-one b (grows p w) (grows q w)
     grows (Loop x body) w = grows-iter (λ y u. evalA text tokens end bound r (body y) u) bound (λ y u. grows (body y) u) x w
-    grows peek w = grows-then _ (grows-skip end (w .row) w) (λ _ u. grew (at-least u))
-    grows pass w = grows-then _ (grows-skip end (w .row) w) (λ _ u. grows-pass (u .row) u)
+    grows peek w = grows-then _ (grows-skip end (w .row) w refl) (λ _ u. grew (at-least u))
+    grows pass w = grows-then _ (grows-skip end (w .row) w refl) (λ _ u. grows-pass (u .row) u refl)
     grows position w = grew (at-least w)
     grows here w = grew (at-least w)
     grows before w = grew (at-least w)
@@ -129,9 +134,9 @@ module _ (text tokens : List ℕ) (end : ℕ) where
     grows (closeAt n e) w = grew (stores _ w (le-of-eq (sym (written-length n endWord e (w .store)))))
     grows (closeAtStart n k) w = grew (stores _ w (le-of-eq (sym (written-length n endWord (wordIn k firstWord (w .store)) (w .store)))))
     grows (setKind n kind payload) w = grew (stores _ w (le-of-eq (sym (written-length n headWord (nodeHead kind payload) (w .store)))))
-    grows (link parent last child) w = grew {u = withLink parent last child w} (record { store = le-of-eq (sym (adopted-length parent child (w .store))); values = omega arith })
+    grows (link parent last child) w = grew {u = withLink parent last child w} (record { row = none-passed; store = le-of-eq (sym (adopted-length parent child (w .store))); values = omega arith })
     grows (kindOf n) w = grew (at-least w)
-    grows (value ws) w = grew {u = withValue ws w} (record { store = omega arith; values = omega (arith, length-append (w .values) ws) })
+    grows (value ws) w = grew {u = withValue ws w} (record { row = none-passed; store = omega arith; values = omega (arith, length-append (w .values) ws) })
     grows (enterExpr mode min) w = h .exprs mode min w
     grows (enterBlock start kind) w = h .blocks start kind w
 
@@ -619,3 +624,15 @@ module _ (text tokens : List ℕ) (n v r : ℕ) where
 
   pub free-of-reports : {nodes values : ℕ} → parsed text tokens n v r .answer ≡ Answer.done (nodes ∷ values ∷ 0 ∷ []) → Stands nodes values (parsed text tokens n v r .words) (parsedA text tokens)
   free-of-reports = stands-for simulates
+
+  -- All that the abstract run passed are tokens that are read.
+  pub only-good : {file : ℕ} {w : World} → parsedA text tokens ≡ ok file w → Passed (rowFrom tokens 0 (tokenLimit tokens)) (w .row)
+  unfolding parsedA
+  only-good {file} {w} e =
+      let bound = tokenLimit tokens + 1 in
+      go e (grows text tokens (tokenLimit tokens) bound _ (growing text tokens (tokenLimit tokens) bound tryParseExprMinBp parseBlock maxDepth) parseFile (startA tokens))
+    where
+      go : {f : Fate ℕ} → f ≡ ok file w → Grows (startA tokens) f → Passed (rowFrom tokens 0 (tokenLimit tokens)) (w .row)
+      go e (grew {u = u} l) = let z : u ≡ w = cc in rw z at (l .row)
+      go e (sank l) = absurd (let z : _≡_ {A = ℕ} 0 1 = cc in omega arith)
+      go e gave-up = absurd (let z : _≡_ {A = ℕ} 0 1 = cc in omega arith)
