@@ -18,3 +18,4 @@ pub mod Local
 pub mod Abstract
 pub mod Encodes
 pub mod Simulates
+pub mod Ends

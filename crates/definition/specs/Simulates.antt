@@ -31,7 +31,7 @@ use Rattle.definition.specs.Prog.{Turn, again, stop, Prog, Give, Then, B
 use Rattle.definition.specs.Expressions.{tryParseExprMinBp}
 use Rattle.definition.specs.Statements.{parseBlock}
 use Rattle.definition.specs.Declarations.{parseFile}
-use Rattle.definition.specs.Parse.{maxDepth, tokenLimit, start, Parsed, zeros, parsedTo, parsedWithin, parsed}
+use Rattle.definition.specs.Parse.{maxDepth, readers, tokenLimit, start, Parsed, zeros, parsedTo, parsedWithin, parsed}
 use Rattle.definition.specs.Mono as Mono
 use Rattle.definition.specs.Mono.{After, Steady, mono, steady, passed-later, skipped-later, iter-later, turn}
 use Rattle.definition.specs.Progress as Progress
@@ -564,13 +564,16 @@ module _ (text tokens : List ℕ) (n v r : ℕ) where
   outcome blank (short l) = is-short l
   outcome blank (short-deep l) = is-short-deep l
 
-  pub simulates : Outcome (parsed text tokens n v r) (parsedA text tokens)
-  unfolding parsed parsedWithin parsedA
-  simulates =
+  pub file-sim : Sim text tokens (tokenLimit tokens) n v 0 (eval text tokens (tokenLimit tokens + 1) (readers text tokens (tokenLimit tokens + 1) maxDepth) parseFile (start tokens) (zeros n v r)) (parsedA text tokens)
+  unfolding parsedA
+  file-sim =
       let bound = tokenLimit tokens + 1 in
-      outcome (zeros n v r)
-      (sim text tokens (tokenLimit tokens) n v bound _ _ (steady text tokens bound tryParseExprMinBp parseBlock maxDepth) (growing text tokens (tokenLimit tokens) bound tryParseExprMinBp parseBlock maxDepth)
-      (like-at text tokens (tokenLimit tokens) n v bound tryParseExprMinBp parseBlock maxDepth) parseFile (start tokens) (zeros n v r) (startA tokens) start-rel)
+      sim text tokens (tokenLimit tokens) n v bound _ _ (steady text tokens bound tryParseExprMinBp parseBlock maxDepth) (growing text tokens (tokenLimit tokens) bound tryParseExprMinBp parseBlock maxDepth)
+      (like-at text tokens (tokenLimit tokens) n v bound tryParseExprMinBp parseBlock maxDepth) parseFile (start tokens) (zeros n v r) (startA tokens) start-rel
+
+  pub simulates : Outcome (parsed text tokens n v r) (parsedA text tokens)
+  unfolding parsed parsedWithin
+  simulates = outcome (zeros n v r) file-sim
 
   -- ---- what it says where enough words are lent
 
@@ -606,33 +609,3 @@ module _ (text tokens : List ℕ) (n v r : ℕ) where
 
   pub too-deep : {w : World} → parsedA text tokens ≡ deep w → Enough w → parsed text tokens n v r .answer ≡ Answer.refused Refusal.TooDeep (w .at)
   too-deep = deep-answer simulates
-
-  -- An answer free of reports is an abstract answer, for which the words stand.
-  pub data Stands (nodes values : ℕ) (m : Memory) : Fate ℕ → Type 0 where
-    stands : {file : ℕ} {w : World} → Nodes n nodes (m .nodes) (w .store) (w .sane) → Values v values (m .values) (w .values) → Stands nodes values m (ok file w)
-
-  stands-for : {q : Parsed} {f : Fate ℕ} {nodes values : ℕ} → Outcome q f → q .answer ≡ Answer.done (nodes ∷ values ∷ 0 ∷ []) → Stands nodes values (q .words) f
-  stands-for {nodes = a} {values = b} (is-read {w = w} x y) e =
-      let za : length (w .store) ≡ a = cc in
-      let zb : length (w .values) ≡ b = cc in
-      stands (rw za at x) (rw zb at y)
-  stands-for (has-reports {reports = c} h) e = absurd (let z : c ≡ 0 = cc in omega arith)
-  stands-for is-late e = absurd (let z : _≡_ {A = ℕ} 0 1 = cc in omega arith)
-  stands-for is-deep e = absurd (let z : _≡_ {A = ℕ} 0 1 = cc in omega arith)
-  stands-for (is-short l) e = absurd (let z : _≡_ {A = ℕ} 0 1 = cc in omega arith)
-  stands-for (is-short-deep l) e = absurd (let z : _≡_ {A = ℕ} 0 1 = cc in omega arith)
-
-  pub free-of-reports : {nodes values : ℕ} → parsed text tokens n v r .answer ≡ Answer.done (nodes ∷ values ∷ 0 ∷ []) → Stands nodes values (parsed text tokens n v r .words) (parsedA text tokens)
-  free-of-reports = stands-for simulates
-
-  -- All that the abstract run passed are tokens that are read.
-  pub only-good : {file : ℕ} {w : World} → parsedA text tokens ≡ ok file w → Passed (rowFrom tokens 0 (tokenLimit tokens)) (w .row)
-  unfolding parsedA
-  only-good {file} {w} e =
-      let bound = tokenLimit tokens + 1 in
-      go e (grows text tokens (tokenLimit tokens) bound _ (growing text tokens (tokenLimit tokens) bound tryParseExprMinBp parseBlock maxDepth) parseFile (startA tokens))
-    where
-      go : {f : Fate ℕ} → f ≡ ok file w → Grows (startA tokens) f → Passed (rowFrom tokens 0 (tokenLimit tokens)) (w .row)
-      go e (grew {u = u} l) = let z : u ≡ w = cc in rw z at (l .row)
-      go e (sank l) = absurd (let z : _≡_ {A = ℕ} 0 1 = cc in omega arith)
-      go e gave-up = absurd (let z : _≡_ {A = ℕ} 0 1 = cc in omega arith)
