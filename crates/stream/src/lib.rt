@@ -39,7 +39,7 @@ fn move_to(s: Reading, cursor: Cursor) -> Reading
 }
 
 // Where a token ends; 0 past the words.
-fn token_end(tokens: &[u32], i: u32) -> u32
+pub fn token_end(tokens: &[u32], i: u32) -> u32
     ensures { λ r. ⌜ r ≡ tokenEnd (wordAt (now (tokens .entry)) i) ⌝ }
 {
     let at = i as usize;
@@ -50,7 +50,7 @@ fn token_end(tokens: &[u32], i: u32) -> u32
 }
 
 // Where a token starts: where the one before it ends.
-fn token_start(tokens: &[u32], i: u32) -> u32
+pub fn token_start(tokens: &[u32], i: u32) -> u32
     ensures { λ r. ⌜ r ≡ tokenStart (now (tokens .entry)) i ⌝ }
 {
     if i == 0 {
@@ -60,7 +60,7 @@ fn token_start(tokens: &[u32], i: u32) -> u32
 }
 
 // Where the token before one starts.
-fn before_start(tokens: &[u32], i: u32) -> u32
+pub fn before_start(tokens: &[u32], i: u32) -> u32
     ensures { λ r. ⌜ r ≡ tokenStart (now (tokens .entry)) (pred i) ⌝ }
 {
     if i == 0 {
@@ -70,7 +70,7 @@ fn before_start(tokens: &[u32], i: u32) -> u32
 }
 
 // Whether the mark is at the cursor's token: `at_last_unexpected`.
-fn is_marked(s: Reading) -> bool
+pub fn is_marked(s: Reading) -> bool
     ensures { λ r. ⌜ r ≡ isMarked (s .state) ⌝ }
 {
     let state = s.state;
