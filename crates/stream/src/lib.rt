@@ -8,6 +8,7 @@ ghost use Rattle.definition.specs.Tokens.{check, eat, eof, emitUnexpected, expe
 ghost use Rattle.reading.specs.Does.{Does, view, from, turnsOf};
 ghost use Rattle.stream.specs.Skip.{moved};
 ghost use Rattle.stream.specs.Commands.{markHere, missing, turnIf};
+ghost use Rattle.stream.specs.Delimited.{listEnds, passUnexpected};
 ghost use Rattle.words.specs.Words.{tokenEnd};
 ghost use Rattle.literals.specs.Spelling.{span, tokenStart, wordAt};
 use definition::Cursor;
@@ -514,4 +515,56 @@ pub fn skip_until_recovery_token(
         }
     }
     at
+}
+
+fn either(a: bool, b: bool) -> bool
+    ensures { λ r. ⌜ r ≡ (a || b) ⌝ }
+{
+    if a {
+        return true;
+    }
+    b
+}
+
+// Whether a list ends here: at its terminator, or at the end of all.
+pub fn list_ends(
+    d: u32,
+    s: Reading,
+    text: &[u8],
+    tokens: &[u32],
+    nodes: &mut [u32],
+    values: &mut [u32],
+    reports: &mut [u32],
+    terminator: u32,
+) -> Told
+    ensures { λ r. ⌜ Does (now (text .entry)) (now (tokens .entry)) d (listEnds terminator) s (memory (now (nodes .entry)) (now (values .entry)) (now (reports .entry))) (r .is) (r .at) (memory (now (nodes .exit)) (now (values .exit)) (now (reports .exit))) ⌝ }
+{
+    let closed = check(d, s, text, tokens, nodes, values, reports, terminator);
+    let at = closed.at;
+    let ended = eof(d, at, text, tokens, nodes, values, reports);
+    let past = ended.at;
+    Told {
+        is: either(closed.is, ended.is),
+        at: past,
+    }
+}
+
+// A token that no element of a list starts with is passed, with a report unless one was made since the last element.
+pub fn pass_unexpected(
+    d: u32,
+    s: Reading,
+    text: &[u8],
+    tokens: &[u32],
+    nodes: &mut [u32],
+    values: &mut [u32],
+    reports: &mut [u32],
+    emitted: bool,
+) -> Reading
+    ensures { λ r. ⌜ Does (now (text .entry)) (now (tokens .entry)) d (passUnexpected emitted) s (memory (now (nodes .entry)) (now (values .entry)) (now (reports .entry))) tt r (memory (now (nodes .exit)) (now (values .exit)) (now (reports .exit))) ⌝ }
+{
+    if emitted {
+        return pass(d, s, text, tokens, nodes, values, reports);
+    }
+    let told = emit_unexpected(d, s, text, tokens, nodes, values, reports);
+    pass(d, told, text, tokens, nodes, values, reports)
 }
