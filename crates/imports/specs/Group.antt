@@ -8,10 +8,10 @@ use Rattle.words.specs.Token
 use Rattle.words.specs.Report
 use Rattle.literals.specs.declared.Span.{Span}
 use Rattle.definition.specs.declared.Unfinished.{Unfinished}
-use Rattle.definition.specs.Prog.{Prog, Act, give, _>>=_, _>>_, loop, if_then_else_, when, emit, Memory}
+use Rattle.definition.specs.Prog.{Prog, Act, give, _>>=_, _>>_, loop, if_then_else_, when, before, emit, Memory}
 use Rattle.definition.specs.Tokens.{check, eat, ifEat_then_else_}
 use Rattle.definition.specs.Nodes.{pushChild, expectIdent}
-use Rattle.definition.specs.Declarations.{Group, pathTurn, groupItem}
+use Rattle.definition.specs.Declarations.{Group, pathTurn, parseImportGroupItem, groupItem}
 use Rattle.reading.specs.declared.Reading.{Reading}
 use Rattle.reading.specs.Does.{Does}
 use Rattle.imports.specs.declared.group.Item.{Item}
@@ -49,6 +49,16 @@ withAlias item =
       alias ← expectIdent
       pushChild item alias)
     else give item
+
+abbrev pub starInGroup : Act
+starInGroup = do
+  place ← before
+  emit Report.StarInGroup 0 place
+
+abbrev pub withItem : Unfinished → Prog Unfinished
+withItem g = do
+  item ← parseImportGroupItem
+  pushChild g item
 
 abbrev pub tellCount : ℕ → Span → Act
 tellCount count brace = do

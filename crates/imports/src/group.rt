@@ -9,29 +9,31 @@ ghost use Rattle.definition.specs.Declarations.{pathTurn, parseImportGroupItem,
 ghost use Rattle.reading.specs.Does.{Does};
 ghost use Rattle.stream.specs.Commands.{turnIf};
 ghost use Rattle.stream.specs.Delimited.{elements};
-ghost use Rattle.imports.specs.Group.{pathInGroup, withAlias, groupOf, Grows, tellCount};
+ghost use Rattle.imports.specs.Group.{pathInGroup, withAlias, starInGroup, withItem, groupOf, Grows, tellCount};
 use definition::Unfinished;
 use reading::Got;
 use reading::Opened;
 use reading::Reading;
 use reading::report;
 use stream::Going;
+use stream::list_ends;
 use words::node;
 use words::token;
+use words::token::RIGHT_CURLY;
 
 // A group with one item more, or that there is no item.
-pub enum Item {
+enum Item {
     Some(Unfinished),
     None,
 }
 
-pub struct Grown {
+struct Grown {
     pub it: Item,
     pub at: Reading,
 }
 
 // A group, and how many items it has.
-pub struct Items {
+struct Items {
     pub node: Unfinished,
     pub count: usize,
     pub at: Reading,
@@ -210,23 +212,14 @@ fn parse_import_group_item(
         node::IMPORT_GROUP_ITEM,
         0,
     );
+    let it = item.it;
     let name = names::expect_ident(d, item.at, text, tokens, nodes, values, reports);
     let at = name.at;
     let state = at.state;
     let cursor = state.cursor;
     let start = stream::before_start(tokens, cursor.at);
     let end = stream::token_start(tokens, cursor.at);
-    let named = cst::push_child(
-        d,
-        at,
-        text,
-        tokens,
-        nodes,
-        values,
-        reports,
-        item.it,
-        name.it,
-    );
+    let named = cst::push_child(d, at, text, tokens, nodes, values, reports, it, name.it);
     let told = path_in_group(
         d,
         named.at,
@@ -242,7 +235,65 @@ fn parse_import_group_item(
     cst::close_node(d, whole.at, text, tokens, nodes, values, reports, whole.it)
 }
 
-// An item, or a star, which a group may not have: it is reported, and counts as an item.
+// A star, which a group may not have, is reported.
+fn star_in_group(
+    d: u32,
+    s: Reading,
+    text: &[u8],
+    tokens: &[u32],
+    nodes: &mut [u32],
+    values: &mut [u32],
+    reports: &mut [u32],
+) -> Reading
+    ensures { λ r. ⌜ Does (now (text .entry)) (now (tokens .entry)) d starInGroup s (memory (now (nodes .entry)) (now (values .entry)) (now (reports .entry))) tt r (memory (now (nodes .exit)) (now (values .exit)) (now (reports .exit))) ⌝ }
+{
+    let state = s.state;
+    let cursor = state.cursor;
+    let start = stream::before_start(tokens, cursor.at);
+    let end = stream::token_start(tokens, cursor.at);
+    report::emit(
+        d,
+        s,
+        text,
+        tokens,
+        nodes,
+        values,
+        reports,
+        words::report::STAR_IN_GROUP,
+        0,
+        start,
+        end,
+    )
+}
+
+// A group with the item that comes next.
+fn push_item(
+    d: u32,
+    s: Reading,
+    text: &[u8],
+    tokens: &[u32],
+    nodes: &mut [u32],
+    values: &mut [u32],
+    reports: &mut [u32],
+    group: Unfinished,
+) -> Opened
+    ensures { λ r. ⌜ Does (now (text .entry)) (now (tokens .entry)) d (withItem group) s (memory (now (nodes .entry)) (now (values .entry)) (now (reports .entry))) (r .it) (r .at) (memory (now (nodes .exit)) (now (values .exit)) (now (reports .exit))) ⌝ }
+{
+    let item = parse_import_group_item(d, s, text, tokens, nodes, values, reports);
+    cst::push_child(
+        d,
+        item.at,
+        text,
+        tokens,
+        nodes,
+        values,
+        reports,
+        group,
+        item.it,
+    )
+}
+
+// An item where there is one; a star counts as one.
 fn group_item(
     d: u32,
     s: Reading,
@@ -258,23 +309,7 @@ fn group_item(
     let star = stream::eat(d, s, text, tokens, nodes, values, reports, token::STAR);
     let at = star.at;
     if star.is {
-        let state = at.state;
-        let cursor = state.cursor;
-        let start = stream::before_start(tokens, cursor.at);
-        let end = stream::token_start(tokens, cursor.at);
-        let told = report::emit(
-            d,
-            at,
-            text,
-            tokens,
-            nodes,
-            values,
-            reports,
-            words::report::STAR_IN_GROUP,
-            0,
-            start,
-            end,
-        );
+        let told = star_in_group(d, at, text, tokens, nodes, values, reports);
         return Grown {
             it: Item::Some(group),
             at: told,
@@ -292,18 +327,7 @@ fn group_item(
     );
     let next = name.at;
     if name.is {
-        let item = parse_import_group_item(d, next, text, tokens, nodes, values, reports);
-        let pushed = cst::push_child(
-            d,
-            item.at,
-            text,
-            tokens,
-            nodes,
-            values,
-            reports,
-            group,
-            item.it,
-        );
+        let pushed = push_item(d, next, text, tokens, nodes, values, reports, group);
         let longer = pushed.it;
         let past = pushed.at;
         return Grown {
@@ -355,16 +379,7 @@ fn group_items(
                 }
             }
             Item::None => {
-                let ended = stream::list_ends(
-                    d,
-                    at,
-                    text,
-                    tokens,
-                    nodes,
-                    values,
-                    reports,
-                    token::RIGHT_CURLY,
-                );
+                let ended = list_ends(d, at, text, tokens, nodes, values, reports, RIGHT_CURLY);
                 at = ended.at;
                 if ended.is {
                     break;

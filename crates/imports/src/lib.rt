@@ -8,7 +8,7 @@ ghost use Rattle.definition.specs.Nodes.{flag};
 ghost use Rattle.definition.specs.Declarations.{globImport, groupImport, importTurn, importAs, parseImportDecl};
 ghost use Rattle.reading.specs.Does.{Does};
 ghost use Rattle.cst.specs.Cst.{maybe};
-ghost use Rattle.imports.specs.Import.{soFar, turnTo, importPart, importEnd};
+ghost use Rattle.imports.specs.Import.{soFar, turnTo, importPart, asName, asDecl, importEnd, importRest};
 use definition::Unfinished;
 use reading::Got;
 use reading::Maybe;
@@ -17,17 +17,17 @@ use words::flag;
 use words::node;
 use words::token;
 
-pub mod group;
+mod group;
 
 // The path so far, and the whole declaration's node where it ends in the path: in a star or a group.
-pub struct Import {
+struct Import {
     pub path: Unfinished,
     pub whole: Maybe,
     pub at: Reading,
 }
 
 // The same after a turn, and whether there is another.
-pub struct ImportTurn {
+struct ImportTurn {
     pub on: bool,
     pub path: Unfinished,
     pub whole: Maybe,
@@ -272,6 +272,96 @@ fn import_path(
     Import { path, whole, at }
 }
 
+// The name that an import gives.
+fn as_name(
+    d: u32,
+    s: Reading,
+    text: &[u8],
+    tokens: &[u32],
+    nodes: &mut [u32],
+    values: &mut [u32],
+    reports: &mut [u32],
+    import: Unfinished,
+) -> Got
+    ensures { λ r. ⌜ Does (now (text .entry)) (now (tokens .entry)) d (asName import) s (memory (now (nodes .entry)) (now (values .entry)) (now (reports .entry))) (r .it) (r .at) (memory (now (nodes .exit)) (now (values .exit)) (now (reports .exit))) ⌝ }
+{
+    let eaten = stream::expect(d, s, text, tokens, nodes, values, reports, token::AS);
+    let name = names::expect_ident(d, eaten.at, text, tokens, nodes, values, reports);
+    let named = cst::push_child(
+        d,
+        name.at,
+        text,
+        tokens,
+        nodes,
+        values,
+        reports,
+        import,
+        name.it,
+    );
+    let ended = stream::expect(
+        d,
+        named.at,
+        text,
+        tokens,
+        nodes,
+        values,
+        reports,
+        token::SEMICOLON,
+    );
+    cst::close_node(d, ended.at, text, tokens, nodes, values, reports, named.it)
+}
+
+// The import that has a path's node.
+fn as_decl(
+    d: u32,
+    s: Reading,
+    text: &[u8],
+    tokens: &[u32],
+    nodes: &mut [u32],
+    values: &mut [u32],
+    reports: &mut [u32],
+    start: u32,
+    public: bool,
+    path: u32,
+) -> Got
+    ensures { λ r. ⌜ Does (now (text .entry)) (now (tokens .entry)) d (asDecl start public path) s (memory (now (nodes .entry)) (now (values .entry)) (now (reports .entry))) (r .it) (r .at) (memory (now (nodes .exit)) (now (values .exit)) (now (reports .exit))) ⌝ }
+{
+    let flags = flag_if(public, flag::IMPORT_AS_DECL_PUBLIC);
+    let import = cst::open_from(
+        d,
+        s,
+        text,
+        tokens,
+        nodes,
+        values,
+        reports,
+        start,
+        node::IMPORT_AS_DECL,
+        flags,
+    );
+    let pushed = cst::push_child(
+        d,
+        import.at,
+        text,
+        tokens,
+        nodes,
+        values,
+        reports,
+        import.it,
+        path,
+    );
+    as_name(
+        d,
+        pushed.at,
+        text,
+        tokens,
+        nodes,
+        values,
+        reports,
+        pushed.it,
+    )
+}
+
 // An import under another name.
 fn import_as(
     d: u32,
@@ -300,8 +390,7 @@ fn import_as(
         0,
     );
     let closed = cst::close_node(d, changed, text, tokens, nodes, values, reports, path);
-    let flags = flag_if(public, flag::IMPORT_AS_DECL_PUBLIC);
-    let import = cst::open_from(
+    as_decl(
         d,
         closed.at,
         text,
@@ -310,53 +399,9 @@ fn import_as(
         values,
         reports,
         start,
-        node::IMPORT_AS_DECL,
-        flags,
-    );
-    let pathed = cst::push_child(
-        d,
-        import.at,
-        text,
-        tokens,
-        nodes,
-        values,
-        reports,
-        import.it,
+        public,
         closed.it,
-    );
-    let eaten = stream::expect(
-        d,
-        pathed.at,
-        text,
-        tokens,
-        nodes,
-        values,
-        reports,
-        token::AS,
-    );
-    let name = names::expect_ident(d, eaten.at, text, tokens, nodes, values, reports);
-    let named = cst::push_child(
-        d,
-        name.at,
-        text,
-        tokens,
-        nodes,
-        values,
-        reports,
-        pathed.it,
-        name.it,
-    );
-    let ended = stream::expect(
-        d,
-        named.at,
-        text,
-        tokens,
-        nodes,
-        values,
-        reports,
-        token::SEMICOLON,
-    );
-    cst::close_node(d, ended.at, text, tokens, nodes, values, reports, named.it)
+    )
 }
 
 // The end of an import that is no star and no group.
@@ -391,6 +436,42 @@ fn import_end(
         public,
         path,
     )
+}
+
+// What stands after the first name.
+fn import_rest(
+    d: u32,
+    s: Reading,
+    text: &[u8],
+    tokens: &[u32],
+    nodes: &mut [u32],
+    values: &mut [u32],
+    reports: &mut [u32],
+    start: u32,
+    public: bool,
+    path: Unfinished,
+) -> Got
+    ensures { λ r. ⌜ Does (now (text .entry)) (now (tokens .entry)) d (importRest start public path) s (memory (now (nodes .entry)) (now (values .entry)) (now (reports .entry))) (r .it) (r .at) (memory (now (nodes .exit)) (now (values .exit)) (now (reports .exit))) ⌝ }
+{
+    let read = import_path(d, s, text, tokens, nodes, values, reports, public, path);
+    let at = read.at;
+    let longer = read.path;
+    let whole = read.whole;
+    match whole {
+        Maybe::Some(n) => Got { it: n, at },
+        Maybe::None => import_end(
+            d,
+            at,
+            text,
+            tokens,
+            nodes,
+            values,
+            reports,
+            start,
+            public,
+            longer,
+        ),
+    }
 }
 
 pub fn parse_import_decl(
@@ -431,7 +512,7 @@ pub fn parse_import_decl(
         opened.it,
         ident.it,
     );
-    let read = import_path(
+    import_rest(
         d,
         pushed.at,
         text,
@@ -439,25 +520,8 @@ pub fn parse_import_decl(
         nodes,
         values,
         reports,
+        start,
         public,
         pushed.it,
-    );
-    let at = read.at;
-    let path = read.path;
-    let whole = read.whole;
-    match whole {
-        Maybe::Some(n) => Got { it: n, at },
-        Maybe::None => import_end(
-            d,
-            at,
-            text,
-            tokens,
-            nodes,
-            values,
-            reports,
-            start,
-            public,
-            path,
-        ),
-    }
+    )
 }
