@@ -498,7 +498,7 @@ pub fn push_closing(
 }
 
 // The number before; 0 has none.
-fn previous(n: u32) -> u32
+pub fn previous(n: u32) -> u32
     ensures { λ r. ⌜ r ≡ pred n ⌝ }
 {
     if n == 0 {

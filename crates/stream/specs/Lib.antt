@@ -1,3 +1,4 @@
 pub mod Skip
 pub mod Trivia
 pub mod Commands
+pub mod Delimited

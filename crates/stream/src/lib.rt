@@ -8,6 +8,7 @@ ghost use Rattle.definition.specs.Tokens.{check, eat, eof, emitUnexpected, expe
 ghost use Rattle.reading.specs.Does.{Does, view, from, turnsOf};
 ghost use Rattle.stream.specs.Skip.{moved};
 ghost use Rattle.stream.specs.Commands.{markHere, missing, turnIf};
+ghost use Rattle.stream.specs.Delimited.{listEnds, passUnexpected};
 ghost use Rattle.words.specs.Words.{tokenEnd};
 ghost use Rattle.literals.specs.Spelling.{span, tokenStart, wordAt};
 use definition::Cursor;
@@ -39,7 +40,7 @@ fn move_to(s: Reading, cursor: Cursor) -> Reading
 }
 
 // Where a token ends; 0 past the words.
-fn token_end(tokens: &[u32], i: u32) -> u32
+pub fn token_end(tokens: &[u32], i: u32) -> u32
     ensures { λ r. ⌜ r ≡ tokenEnd (wordAt (now (tokens .entry)) i) ⌝ }
 {
     let at = i as usize;
@@ -50,7 +51,7 @@ fn token_end(tokens: &[u32], i: u32) -> u32
 }
 
 // Where a token starts: where the one before it ends.
-fn token_start(tokens: &[u32], i: u32) -> u32
+pub fn token_start(tokens: &[u32], i: u32) -> u32
     ensures { λ r. ⌜ r ≡ tokenStart (now (tokens .entry)) i ⌝ }
 {
     if i == 0 {
@@ -60,7 +61,7 @@ fn token_start(tokens: &[u32], i: u32) -> u32
 }
 
 // Where the token before one starts.
-fn before_start(tokens: &[u32], i: u32) -> u32
+pub fn before_start(tokens: &[u32], i: u32) -> u32
     ensures { λ r. ⌜ r ≡ tokenStart (now (tokens .entry)) (pred i) ⌝ }
 {
     if i == 0 {
@@ -70,7 +71,7 @@ fn before_start(tokens: &[u32], i: u32) -> u32
 }
 
 // Whether the mark is at the cursor's token: `at_last_unexpected`.
-fn is_marked(s: Reading) -> bool
+pub fn is_marked(s: Reading) -> bool
     ensures { λ r. ⌜ r ≡ isMarked (s .state) ⌝ }
 {
     let state = s.state;
@@ -514,4 +515,56 @@ pub fn skip_until_recovery_token(
         }
     }
     at
+}
+
+fn either(a: bool, b: bool) -> bool
+    ensures { λ r. ⌜ r ≡ (a || b) ⌝ }
+{
+    if a {
+        return true;
+    }
+    b
+}
+
+// Whether a list ends here: at its terminator, or at the end of all.
+pub fn list_ends(
+    d: u32,
+    s: Reading,
+    text: &[u8],
+    tokens: &[u32],
+    nodes: &mut [u32],
+    values: &mut [u32],
+    reports: &mut [u32],
+    terminator: u32,
+) -> Told
+    ensures { λ r. ⌜ Does (now (text .entry)) (now (tokens .entry)) d (listEnds terminator) s (memory (now (nodes .entry)) (now (values .entry)) (now (reports .entry))) (r .is) (r .at) (memory (now (nodes .exit)) (now (values .exit)) (now (reports .exit))) ⌝ }
+{
+    let closed = check(d, s, text, tokens, nodes, values, reports, terminator);
+    let at = closed.at;
+    let ended = eof(d, at, text, tokens, nodes, values, reports);
+    let past = ended.at;
+    Told {
+        is: either(closed.is, ended.is),
+        at: past,
+    }
+}
+
+// A token that no element of a list starts with is passed, with a report unless one was made since the last element.
+pub fn pass_unexpected(
+    d: u32,
+    s: Reading,
+    text: &[u8],
+    tokens: &[u32],
+    nodes: &mut [u32],
+    values: &mut [u32],
+    reports: &mut [u32],
+    emitted: bool,
+) -> Reading
+    ensures { λ r. ⌜ Does (now (text .entry)) (now (tokens .entry)) d (passUnexpected emitted) s (memory (now (nodes .entry)) (now (values .entry)) (now (reports .entry))) tt r (memory (now (nodes .exit)) (now (values .exit)) (now (reports .exit))) ⌝ }
+{
+    if emitted {
+        return pass(d, s, text, tokens, nodes, values, reports);
+    }
+    let told = emit_unexpected(d, s, text, tokens, nodes, values, reports);
+    pass(d, told, text, tokens, nodes, values, reports)
 }

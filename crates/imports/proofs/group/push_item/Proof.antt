@@ -1,0 +1,35 @@
+-- `push_item` meets its contract.
+use mathlib.Core.Path.{_∙_}
+use Rattle.reading.specs.Does.{then}
+use borrow.Author.Needs.{needs}
+use Rattle.imports.proofs.group.push_item.Statement.{statement}
+use Rattle.imports.proofs.group.push_item.Tie as tie
+
+parse-import-group-item-requires : tie.Need-parse-import-group-item-requires
+parse-import-group-item-requires c κs = search needs
+
+push-child-requires : tie.Need-push-child-requires
+push-child-requires c κs = search needs
+
+same-length : tie.Need-same-length
+same-length c = c .before .before .before .before .before .before .push-child .kept .1 .1 .1 .1 .0 ∙ c .before .before .before .before .before .before .before .before .before .before .before .before .before .before .before .before .parse-import-group-item .kept .1 .1 .1 .1 .0
+
+same-length-2 : tie.Need-same-length-2
+same-length-2 c = c .before .before .before .before .before .before .push-child .kept .1 .1 .1 .1 .1 .0 ∙ c .before .before .before .before .before .before .before .before .before .before .before .before .before .before .before .before .parse-import-group-item .kept .1 .1 .1 .1 .1 .0
+
+same-length-3 : tie.Need-same-length-3
+same-length-3 c = c .before .before .before .before .before .before .push-child .kept .1 .1 .1 .1 .1 .1 .0 ∙ c .before .before .before .before .before .before .before .before .before .before .before .before .before .before .before .before .parse-import-group-item .kept .1 .1 .1 .1 .1 .1 .0
+
+returns : tie.Need-returns
+returns c = then (c .before .before .before .before .before .before .before .before .before .before .before .before .before .before .before .before .parse-import-group-item .ensures) (c .before .before .before .before .before .before .push-child .ensures)
+
+pub push-item-spec : {M : Type 1} → statement M
+push-item-spec =
+    tie.close
+    (tie.spec
+    parse-import-group-item-requires
+    push-child-requires
+    same-length
+    same-length-2
+    same-length-3
+    returns)
