@@ -1,2 +1,3 @@
 pub mod Cst
 pub mod Laws
+pub mod Payload
