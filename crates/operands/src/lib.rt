@@ -4,6 +4,7 @@ ghost use Prim.Native.Nat.{_%_};
 ghost use Rattle.cst.specs.Payload.{payloads};
 
 pub mod numbers;
+pub mod strings;
 
 // The payloads that a node's first word can tell.
 const PAYLOADS: usize = 67108864;
