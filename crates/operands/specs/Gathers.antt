@@ -1,5 +1,5 @@
 -- What the loop of a string literal does, turn by turn: the run goes over the values as they were lent, while the bytes are held in them.
-use mathlib.Core.Path.{_≡_, refl, sym, _∙_, ap}
+use mathlib.Core.Path.{_≡_, refl, _∙_}
 use mathlib.Core.Bool.{Bool, true, false}
 use mathlib.Core.Option.{Option, none, some}
 use mathlib.Core.List.{List, [], _++_, append-nil}
@@ -12,7 +12,7 @@ use Rattle.words.specs.Node
 use Rattle.literals.specs.Strings.{fours, stringValue}
 use Rattle.definition.specs.Prog.{Prog, give, _>>=_, _>>_, loop, peek, value, Memory, memory}
 use Rattle.definition.specs.Nodes.{allocNodeFrom, closeNodeAt, skipTriviaStart}
-use Rattle.definition.specs.Strings.{StringBuf, stringTurn, tryParseStringLiteral}
+use Rattle.definition.specs.Strings.{stringTurn, tryParseStringLiteral}
 use Rattle.reading.specs.declared.Maybe.{Maybe}
 use Rattle.reading.specs.declared.Maybe.the-variants.{Some, None}
 use Rattle.reading.specs.declared.Reading.{Reading}

@@ -1,7 +1,7 @@
 -- What a turn of a string literal's loop does, whatever values were lent and whatever bytes are held.
-use mathlib.Core.Path.{_≡_, refl, sym, _∙_, ap}
-use mathlib.Core.Bool.{Bool, true, false, _||_}
-use mathlib.Core.Option.{Option, none, some}
+use mathlib.Core.Path.{_≡_, refl, sym, _∙_}
+use mathlib.Core.Bool.{true, _||_}
+use mathlib.Core.Option.{Option, some}
 use mathlib.Core.List.{List, [], _++_, append-nil}
 use Prim.Native.Nat.{ℕ}
 use native.Mathlib.Omega.{arith}
@@ -11,7 +11,7 @@ use Rattle.words.specs.Token
 use Rattle.literals.specs.Strings.{Event, bytesOf, decodeString, decodeHex}
 use Rattle.literals.specs.Spelling as Source
 use Rattle.definition.specs.Prog.{Turn, again, stop, Prog, Give, Branch, peek, pass, here, Memory, memory, eval}
-use Rattle.definition.specs.Strings.{StringBuf, emitEvents, decodeToken, stringTurn}
+use Rattle.definition.specs.Strings.{StringBuf, decodeToken, stringTurn}
 use Rattle.reading.specs.declared.Maybe.{Maybe}
 use Rattle.reading.specs.declared.Maybe.the-variants.{Some, None}
 use Rattle.reading.specs.declared.Reading.{Reading}
