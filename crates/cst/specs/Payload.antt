@@ -17,6 +17,10 @@ use Rattle.cst.specs.Cst.{hasRoom}
 abbrev pub cut : ℕ → ℕ
 cut payload = payload % 2 ^ 26
 
+-- How many payloads there are.
+abbrev pub payloads : ℕ
+payloads = 67108864
+
 head-cut : (kind payload : ℕ) → nodeHead kind (cut payload) ≡ nodeHead kind payload
 unfolding pack
 head-cut kind payload = rw mod-mod
@@ -41,3 +45,12 @@ module _ {text tokens : List ℕ} {d : ℕ} {r r′ : Reading} {m m′ : Memory}
   pub last-cut : (kind payload : ℕ) {n a : ℕ} → n ≡ cut payload → Does text tokens d (allocLastTokenAsNode kind n) r m a r′ m′ → Does text tokens d (allocLastTokenAsNode kind payload) r m a r′ m′
   unfolding allocLastTokenAsNode allocNodeFrom eval
   last-cut kind payload e g = alike (rw (e, allocated-cut (pred (r .state .cursor .at)) kind payload)) g
+
+  -- The same, with what is cut written out.
+  pub cut-from : {u : Unfinished} (start kind payload : ℕ) → Does text tokens d (allocNodeFrom start kind (payload % payloads)) r m u r′ m′
+      → Does text tokens d (allocNodeFrom start kind payload) r m u r′ m′
+  cut-from start kind payload g = open-cut start kind payload refl g
+
+  pub cut-last : {n : ℕ} (kind payload : ℕ) → Does text tokens d (allocLastTokenAsNode kind (payload % payloads)) r m n r′ m′
+      → Does text tokens d (allocLastTokenAsNode kind payload) r m n r′ m′
+  cut-last kind payload g = last-cut kind payload refl g

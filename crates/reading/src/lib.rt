@@ -16,6 +16,19 @@ pub struct Reading {
     pub place: u32,
 }
 
+// "Priorities 19 and 21 belong to the parser's type as constants" (01).
+impl Reading {
+    pub const ZERO: u32 = 0;
+
+    pub const UNARY_PRIORITY: u32 = 19;
+
+    pub const MEMBER_PRIORITY: u32 = 21;
+
+    pub const FN_CALL_PRIORITY: u32 = 21;
+
+    pub const STRUCT_LITERAL_PRIORITY: u32 = 21;
+}
+
 // What may be missing.
 pub enum Maybe {
     Some(u32),

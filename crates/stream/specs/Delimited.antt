@@ -12,7 +12,7 @@ use Rattle.definition.specs.Tokens.{check, eat, eof, emitUnexpected, expect, De
 use Rattle.reading.specs.declared.Reading.{Reading}
 use Rattle.reading.specs.Does.{Does, run, then, gives, when-true, when-false, turnsOf, Turns, first-turn, next-turn, last-turn, no-turn-left, refused-turn}
 
-bind-bind : {A B C : Type 0} (o : Out A) (f : A → State → Memory → Out B) (g : B → State → Memory → Out C) → bind (bind o f) g ≡ bind o (λ a s m. bind (f a s m) g)
+pub bind-bind : {A B C : Type 0} (o : Out A) (f : A → State → Memory → Out B) (g : B → State → Memory → Out C) → bind (bind o f) g ≡ bind o (λ a s m. bind (f a s m) g)
 bind-bind (done a s m) f g = refl
 bind-bind (refused number place) f g = refl
 
@@ -23,7 +23,7 @@ twice (refused number place) q f g = refl
 
 module _ {text tokens : List ℕ} {d : ℕ} {r r′ : Reading} {m m′ : Memory} where
   -- What does a program does any other that comes to the same.
-  alike : {A : Type 0} {p q : Prog A} {a : A} → run text tokens d p (r .state) m ≡ run text tokens d q (r .state) m → Does text tokens d p r m a r′ m′ → Does text tokens d q r m a r′ m′
+  pub alike : {A : Type 0} {p q : Prog A} {a : A} → run text tokens d p (r .state) m ≡ run text tokens d q (r .state) m → Does text tokens d p r m a r′ m′ → Does text tokens d q r m a r′ m′
   alike {A = A} e g = record { is = g .is ∙ ap (λ (o : Out A). cond (eqb (r .refusal) 0) o (refused (r .refusal) (r .place))) e }
 
   pub regroup : {A B C : Type 0} {p : Prog A} {f : A → Prog B} {g : B → Prog C} {c : C} → Does text tokens d (Then (Then p f) g) r m c r′ m′ → Does text tokens d (Then p (λ a. Then (f a) g)) r m c r′ m′

@@ -349,7 +349,7 @@ pub fn expect(
 }
 
 // Whether a token is one of a list.
-fn contains(list: &[u32], token: u32) -> bool
+pub fn contains(list: &[u32], token: u32) -> bool
     ensures { λ r. ⌜ r ≡ contains (now (list .entry)) token ⌝ }
 {
     let mut i = 0;
@@ -517,7 +517,7 @@ pub fn skip_until_recovery_token(
     at
 }
 
-fn either(a: bool, b: bool) -> bool
+pub fn either(a: bool, b: bool) -> bool
     ensures { λ r. ⌜ r ≡ (a || b) ⌝ }
 {
     if a {

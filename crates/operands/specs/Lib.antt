@@ -1,0 +1,4 @@
+pub mod Number
+pub mod Alone
+pub mod Turns
+pub mod Gathers

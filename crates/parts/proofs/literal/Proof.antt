@@ -1,0 +1,79 @@
+-- `literal` meets its contract.
+use mathlib.Core.Path.{sym, _∙_}
+use Rattle.parts.specs.Rules.{or-some, or-none}
+use borrow.Author.Needs.{needs}
+use Rattle.parts.proofs.literal.Statement.{statement}
+use Rattle.parts.proofs.literal.Tie as tie
+
+boolean-requires : tie.Need-boolean-requires
+boolean-requires c κs = search needs
+
+is-some-requires : tie.Need-is-some-requires
+is-some-requires c κs = search needs
+
+same-length : tie.Need-same-length
+same-length c = c .before .before .before .before .before .before .before .before .boolean .kept .1 .1 .1 .1 .0
+
+same-length-2 : tie.Need-same-length-2
+same-length-2 c = c .before .before .before .before .before .before .before .before .boolean .kept .1 .1 .1 .1 .1 .0
+
+same-length-3 : tie.Need-same-length-3
+same-length-3 c = c .before .before .before .before .before .before .before .before .boolean .kept .1 .1 .1 .1 .1 .1 .0
+
+returns : tie.Need-returns
+returns c = let h = sym (c .before .is-some .ensures) ∙ c .if1 .taken in or-some (c .before .before .before .before .before .before .before .before .boolean .result .it) h (or-some (c .before .before .before .before .before .before .before .before .boolean .result .it) h (c .before .before .before .before .before .before .before .before .boolean .ensures))
+
+num-literal-requires : tie.Need-num-literal-requires
+num-literal-requires c κs = search needs
+
+is-some-requires-2 : tie.Need-is-some-requires-2
+is-some-requires-2 c κs = search needs
+
+same-length-4 : tie.Need-same-length-4
+same-length-4 c = c .before .before .before .before .before .before .before .before .num-literal .kept .1 .1 .1 .1 .0 ∙ c .before .before .before .before .before .before .before .before .before .before .before .before .before .before .before .before .before .before .before .before .boolean .kept .1 .1 .1 .1 .0
+
+same-length-5 : tie.Need-same-length-5
+same-length-5 c = c .before .before .before .before .before .before .before .before .num-literal .kept .1 .1 .1 .1 .1 .0 ∙ c .before .before .before .before .before .before .before .before .before .before .before .before .before .before .before .before .before .before .before .before .boolean .kept .1 .1 .1 .1 .1 .0
+
+same-length-6 : tie.Need-same-length-6
+same-length-6 c = c .before .before .before .before .before .before .before .before .num-literal .kept .1 .1 .1 .1 .1 .1 .0 ∙ c .before .before .before .before .before .before .before .before .before .before .before .before .before .before .before .before .before .before .before .before .boolean .kept .1 .1 .1 .1 .1 .1 .0
+
+returns-2 : tie.Need-returns-2
+returns-2 c = or-some (c .before .before .before .before .before .before .before .before .num-literal .result .it) (sym (c .before .is-some2 .ensures) ∙ c .if2 .taken) (or-none (c .before .before .before .before .before .before .before .before .before .before .before .before .before .before .before .before .before .before .before .before .boolean .result .it) (sym (c .before .before .before .before .before .before .before .before .before .before .before .before .before .is-some .ensures) ∙ c .before .before .before .before .before .before .before .before .before .before .before .before .if1 .left) (c .before .before .before .before .before .before .before .before .before .before .before .before .before .before .before .before .before .before .before .before .boolean .ensures) (c .before .before .before .before .before .before .before .before .num-literal .ensures))
+
+try-parse-string-literal-requires : tie.Need-try-parse-string-literal-requires
+try-parse-string-literal-requires c κs = search needs
+
+same-length-7 : tie.Need-same-length-7
+same-length-7 c = c .before .before .before .before .before .before .try-parse-string-literal .kept .1 .1 .1 .1 .0 ∙ c .before .before .before .before .before .before .before .before .before .before .before .before .before .before .before .before .before .before .num-literal .kept .1 .1 .1 .1 .0 ∙ c .before .before .before .before .before .before .before .before .before .before .before .before .before .before .before .before .before .before .before .before .before .before .before .before .before .before .before .before .before .before .boolean .kept .1 .1 .1 .1 .0
+
+same-length-8 : tie.Need-same-length-8
+same-length-8 c = c .before .before .before .before .before .before .try-parse-string-literal .kept .1 .1 .1 .1 .1 .0 ∙ c .before .before .before .before .before .before .before .before .before .before .before .before .before .before .before .before .before .before .num-literal .kept .1 .1 .1 .1 .1 .0 ∙ c .before .before .before .before .before .before .before .before .before .before .before .before .before .before .before .before .before .before .before .before .before .before .before .before .before .before .before .before .before .before .boolean .kept .1 .1 .1 .1 .1 .0
+
+same-length-9 : tie.Need-same-length-9
+same-length-9 c = c .before .before .before .before .before .before .try-parse-string-literal .kept .1 .1 .1 .1 .1 .1 .0 ∙ c .before .before .before .before .before .before .before .before .before .before .before .before .before .before .before .before .before .before .num-literal .kept .1 .1 .1 .1 .1 .1 .0 ∙ c .before .before .before .before .before .before .before .before .before .before .before .before .before .before .before .before .before .before .before .before .before .before .before .before .before .before .before .before .before .before .boolean .kept .1 .1 .1 .1 .1 .1 .0
+
+returns-3 : tie.Need-returns-3
+returns-3 c = or-none (c .before .before .before .before .before .before .before .before .before .before .before .before .before .before .before .before .before .before .num-literal .result .it) (sym (c .before .before .before .before .before .before .before .before .before .before .before .is-some2 .ensures) ∙ c .before .before .before .before .before .before .before .before .before .before .if2 .left) (or-none (c .before .before .before .before .before .before .before .before .before .before .before .before .before .before .before .before .before .before .before .before .before .before .before .before .before .before .before .before .before .before .boolean .result .it) (sym (c .before .before .before .before .before .before .before .before .before .before .before .before .before .before .before .before .before .before .before .before .before .before .before .is-some .ensures) ∙ c .before .before .before .before .before .before .before .before .before .before .before .before .before .before .before .before .before .before .before .before .before .before .if1 .left) (c .before .before .before .before .before .before .before .before .before .before .before .before .before .before .before .before .before .before .before .before .before .before .before .before .before .before .before .before .before .before .boolean .ensures) (c .before .before .before .before .before .before .before .before .before .before .before .before .before .before .before .before .before .before .num-literal .ensures)) (c .before .before .before .before .before .before .try-parse-string-literal .ensures)
+
+pub literal-spec : {M : Type 1} → statement M
+literal-spec =
+    tie.close
+    (tie.spec
+    boolean-requires
+    is-some-requires
+    same-length
+    same-length-2
+    same-length-3
+    returns
+    num-literal-requires
+    is-some-requires-2
+    same-length-4
+    same-length-5
+    same-length-6
+    returns-2
+    try-parse-string-literal-requires
+    same-length-7
+    same-length-8
+    same-length-9
+    returns-3)
