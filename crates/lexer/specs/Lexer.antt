@@ -226,7 +226,7 @@ finish m s = more (m .len) (m .after (drop (m .len) s))
 unfoldable pub tokenAt : List ℕ → Lexeme
 tokenAt s = finish (longest noMatch rules s) s
 
--- A lexeme at an offset, and the end of the text.
+-- A lexeme at an offset, as a token.
 abbrev pub from : ℕ → Lexeme → Token
 from at l = record { kind = l .kind; end = at + l .len }
 
