@@ -7,7 +7,6 @@
 Both run `rt` in the repository's folder. See README.md beside this file for the form of ANSWERS.
 """
 import glob
-import json
 import os
 import re
 import shutil
@@ -55,18 +54,6 @@ def modules(crate):
         open(mark, "w").close()
         os.utime(mark, (started, started))
     return os.path.join(folder, f"Rattle.{crate}.proofs", "proofs")
-
-
-def stubs(crate, said):
-    """The proof files that the check offered, now or before, by the function's path."""
-    os.makedirs(KEPT, exist_ok=True)
-    store = os.path.join(KEPT, crate + ".json")
-    known = json.load(open(store)) if os.path.exists(store) else {}
-    for found in re.finditer(r"help: write (\S+) with these lines.*?\n((?:    .*\n)+)", said):
-        fn = re.search(r"/proofs/(.*)/Proof.antt", found.group(1)).group(1)
-        known[fn] = "\n".join(line[4:] for line in found.group(2).split("\n"))
-    json.dump(known, open(store, "w"))
-    return known
 
 
 def paths(lts):
@@ -122,19 +109,23 @@ def readers():
     return names
 
 
-def same_length(need, things):
-    """The chain of calls that keep the length of nodes, values or reports: the needs come in threes, in this order."""
-    number = int(need[len("same-length-"):] or 1) if need != "same-length" else 1
-    slice_number = (number - 1) % 3
+def kept_lengths(things, slice_number):
+    """The chain of calls that keep the length of nodes, values or reports, back to a loop or to the start."""
     known = readers()
     chain = []
     for thing in things:
         if re.fullmatch(r"loop\d*", thing):
             chain.append(f"{at(things, thing)} .inv .{slice_number + 1}")
             break
-        if re.sub(r"\d+$", "", thing) in known:
+        if re.sub(r"\d+$", "", thing).strip("«»") in known:
             chain.append(f"{at(things, thing)} .kept" + " .1" * (4 + slice_number) + " .0")
     return " ∙ ".join(chain)
+
+
+def same_length(need, things):
+    """The needs come in threes, in the order of nodes, values and reports."""
+    number = int(need[len("same-length-"):] or 1) if need != "same-length" else 1
+    return kept_lengths(things, (number - 1) % 3)
 
 
 def parse(block):
@@ -160,7 +151,8 @@ def answer(need, answers, things):
     unfolding, term = answers.get(need, ["", "search needs"])
     if need.startswith("same-length") and need not in answers and things:
         term = same_length(need, things) or term
-    term = re.sub(r"@([A-Za-z0-9-]+)", lambda found: at(things, found.group(1)), term)
+    term = re.sub(r"@lengths\b", lambda found: ", ".join(kept_lengths(things, k) for k in range(3)), term)
+    term = re.sub(r"@([«»A-Za-z0-9-]+)", lambda found: at(things, found.group(1)), term)
     return unfolding, term
 
 
@@ -447,16 +439,46 @@ def loop_heads(lts, variables):
 # ---- commands
 
 
+def hold_alone(crate, fn):
+    """A proof file that only holds the place: with none, the check would search each answer."""
+    path = f"crates/{crate}/proofs/{fn}/Proof.antt"
+    if not os.path.exists(path):
+        module = f"Rattle.{crate}.proofs.{fn.replace('/', '.')}.Statement"
+        spec = dashed(fn.split("/")[-1]) + "-spec"
+        held = f"use {module}.{{statement}}\n\npub {spec} : {{M : Type 1}} → statement M\n{spec} 𝓤 H 𝓜 𝓖 𝓡 = ?\n"
+        write(path, held)
+        os.remove(os.path.join(KEPT, crate + ".mark")) if os.path.exists(os.path.join(KEPT, crate + ".mark")) else None
+
+
+def stub(crate, fn, tie, lts):
+    """The lines of a proof file in which only the answers lack, from what the check generates."""
+    module, spec = f"Rattle.{crate}.proofs.{fn.replace('/', '.')}", dashed(fn.split("/")[-1]) + "-spec"
+    handed = tie[tie.index("pub spec :"):].split("\n  spec =")[0]
+    loops = dict.fromkeys(re.findall(r": InvT-([^\s)]+)", handed))
+    heads = loop_heads(lts, binders(f"{crate}::{fn.replace('/', '::')}")) if loops else {}
+    parts, given = [], []
+    for loop in loops:
+        for kind, of in (("Inv", "InvT"), ("μ", "MeasureT")):
+            parts.append(f"abbrev {kind}-{loop} : tie.{of}-{loop}\n{kind}-{loop} {heads[loop]} = ?")
+            given.append(f"{kind}-{loop}")
+    over = "".join(" " + name for name in given)
+    for need in re.findall(r"\(answer : Need-([^\s)]+)", handed):
+        bound = "c κs" if re.search(r"-requires(-\d+)?$", need) else "c"
+        parts.append(f"{need} : tie.Need-{need}{over}\n{need} {bound} = ?")
+        given.append(need)
+    closed = "\n    ".join(["tie.close", "(tie.spec"] + given) + ")" if given else "tie.close tie.spec"
+    parts.append(f"pub {spec} : {{M : Type 1}} → statement M\n{spec} =\n    {closed}")
+    return f"use {module}.Statement.{{statement}}\nuse {module}.Tie as tie\n\n" + "\n\n".join(parts)
+
+
 def fill_alone(crate, blocks):
     """The files of functions that are in no cycle."""
-    offered, folder = stubs(crate, rt("dev", crate)), modules(crate)
+    for fn in blocks:
+        hold_alone(crate, fn)
+    folder = modules(crate)
     for fn, (comments, uses, answers) in blocks.items():
-        if fn not in offered:
-            print("the check offers no file for", fn, file=sys.stderr)
-            continue
-        lts = f"{folder}/{fn}/Lts.antt"
-        needs = paths(open(lts).read()) if os.path.exists(lts) else {}
-        write(f"crates/{crate}/proofs/{fn}/Proof.antt", proof(offered[fn], comments, uses, answers, needs))
+        tie, lts = (open(f"{folder}/{fn}/{part}.antt").read() for part in ("Tie", "Lts"))
+        write(f"crates/{crate}/proofs/{fn}/Proof.antt", proof(stub(crate, fn, tie, lts), comments, uses, answers, paths(lts)))
 
 
 def fill(crate, answers_text):

@@ -1,0 +1,33 @@
+-- `open_fn` meets its contract.
+use borrow.Author.Needs.{needs}
+use Rattle.steps.proofs.open_fn.Statement.{statement}
+use Rattle.steps.proofs.open_fn.Tie as tie
+
+flag-requires : tie.Need-flag-requires
+flag-requires c κs = search needs
+
+open-from-requires : tie.Need-open-from-requires
+open-from-requires c κs = search needs
+
+same-length : tie.Need-same-length
+same-length c = c .before .before .before .before .before .before .open-from .kept .1 .1 .1 .1 .0
+
+same-length-2 : tie.Need-same-length-2
+same-length-2 c = c .before .before .before .before .before .before .open-from .kept .1 .1 .1 .1 .1 .0
+
+same-length-3 : tie.Need-same-length-3
+same-length-3 c = c .before .before .before .before .before .before .open-from .kept .1 .1 .1 .1 .1 .1 .0
+
+returns : tie.Need-returns
+returns c = rw (c .before .before .before .before .before .before .before .before .before .before .flag .ensures) at (c .before .before .before .before .before .before .open-from .ensures)
+
+pub open-fn-spec : {M : Type 1} → statement M
+open-fn-spec =
+    tie.close
+    (tie.spec
+    flag-requires
+    open-from-requires
+    same-length
+    same-length-2
+    same-length-3
+    returns)
