@@ -3,6 +3,10 @@
 // The seven files of the reference: modules ast, cst, lexer and parser.
 include!(concat!(env!("OUT_DIR"), "/modules.rs"));
 
+mod run;
+mod watch;
 mod words;
 
+pub use run::{End, Lengths, Refusal, Run, run};
+pub use watch::{Step, Taken};
 pub use words::{Words, lex, read, try_read};

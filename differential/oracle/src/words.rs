@@ -27,15 +27,20 @@ pub fn read(text: &str) -> Words {
     let lexed = Lexed::lex(text);
     let mut session = Session::new();
     let tree = parse(&mut session, &lexed, text, SourceId::ZERO);
-    let mut writer = TreeWriter::new(text, &lexed, &session, &tree);
+    words_of(text, &lexed, &session, &tree)
+}
+
+/// The words of a text that the reference has read.
+pub fn words_of(text: &str, lexed: &Lexed, session: &Session, tree: &ConcreteSyntaxTree) -> Words {
+    let mut writer = TreeWriter::new(text, lexed, session, tree);
     for node in tree.nodes.iter() {
         writer.write_node(node);
     }
     Words {
-        tokens: token_words(&lexed),
+        tokens: token_words(lexed),
         nodes: writer.nodes,
         values: writer.values,
-        reports: session.reports().iter().flat_map(report_words).collect(),
+        reports: report_words(session),
     }
 }
 
@@ -54,7 +59,7 @@ fn tokens(lexed: &Lexed) -> impl Iterator<Item = TokenIdx> {
     (0..lexed.len().get()).map(TokenIdx::new)
 }
 
-fn token_words(lexed: &Lexed) -> Vec<u32> {
+pub fn token_words(lexed: &Lexed) -> Vec<u32> {
     let word = |ti| {
         let (token, span) = lexed.get(ti);
         (token as u32) << 25 | span.end.get()
@@ -62,8 +67,12 @@ fn token_words(lexed: &Lexed) -> Vec<u32> {
     tokens(lexed).map(word).collect()
 }
 
-fn report_words(report: &Report) -> [u32; 3] {
-    [report.kind << 26 | report.detail, report.span.start.get(), report.span.end.get()]
+/// The words of the reports made so far.
+pub fn report_words(session: &Session) -> Vec<u32> {
+    let words = |report: &Report| {
+        [report.kind << 26 | report.detail, report.span.start.get(), report.span.end.get()]
+    };
+    session.reports().iter().flat_map(words).collect()
 }
 
 /// Writes nodes in the order in which they were made. As the reference makes a literal's
@@ -136,8 +145,12 @@ impl<'a> TreeWriter<'a> {
             NodeKind::MatchArm => (30, 0),
             NodeKind::MatchFallbackArm { binding } => (31, flags(&[binding])),
             NodeKind::BoolLiteral(value) => (32, flags(&[value])),
-            NodeKind::NumLiteral { id } => (33, self.add_number(&self.tree.num_lit_limbs[id])),
-            NodeKind::StringLiteral { value } => (34, self.add_string(self.session.bytes(value))),
+            NodeKind::NumLiteral { id } => {
+                (33, self.add_value(number_words(&self.tree.num_lit_limbs[id])))
+            }
+            NodeKind::StringLiteral { value } => {
+                (34, self.add_value(string_words(self.session.bytes(value))))
+            }
             NodeKind::SelfType => (35, 0),
             NodeKind::Identifier { ident } => (36, self.first_token(ident)),
             NodeKind::BuiltinName { ident } => (37, self.first_token(ident)),
@@ -160,20 +173,23 @@ impl<'a> TreeWriter<'a> {
         self.first_spelled[self.session.name(name)]
     }
 
-    fn add_number(&mut self, limbs: &[u32]) -> u32 {
-        self.add_value(1, limbs.len(), limbs.iter().copied())
-    }
-
-    fn add_string(&mut self, bytes: &[u8]) -> u32 {
-        self.add_value(2, bytes.len(), bytes.chunks(4).map(packed))
-    }
-
-    fn add_value(&mut self, sort: u32, count: usize, words: impl Iterator<Item = u32>) -> u32 {
+    fn add_value(&mut self, words: Vec<u32>) -> u32 {
         let offset = self.values.len() as u32;
-        self.values.push(sort << 30 | count as u32);
         self.values.extend(words);
         offset
     }
+}
+
+/// The value of a number.
+pub fn number_words(limbs: &[u32]) -> Vec<u32> {
+    [&[1 << 30 | limbs.len() as u32], limbs].concat()
+}
+
+/// The value of a string.
+pub fn string_words(bytes: &[u8]) -> Vec<u32> {
+    let mut words = vec![2 << 30 | bytes.len() as u32];
+    words.extend(bytes.chunks(4).map(packed));
+    words
 }
 
 /// For each name its first token. A builtin's name begins with `@`, so one map holds both.

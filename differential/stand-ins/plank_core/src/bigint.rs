@@ -2,17 +2,23 @@
 //! Underscores are passed over. The digits are those that the lexer let through.
 
 use crate::{Idx, list_of_lists::ListOfLists};
+use hooks::{Call, tell};
 
 pub fn from_radix10_in<I: Idx>(digits: &str, lists: &mut ListOfLists<I, u32>) -> I {
-    lists.push(limbs(digits, 10))
+    keep(limbs(digits, 10), lists)
 }
 
 pub fn from_radix16_in<I: Idx>(digits: &str, lists: &mut ListOfLists<I, u32>) -> I {
-    lists.push(limbs(digits, 16))
+    keep(limbs(digits, 16), lists)
 }
 
 pub fn from_radix2_in<I: Idx>(digits: &str, lists: &mut ListOfLists<I, u32>) -> I {
-    lists.push(limbs(digits, 2))
+    keep(limbs(digits, 2), lists)
+}
+
+fn keep<I: Idx>(limbs: Vec<u32>, lists: &mut ListOfLists<I, u32>) -> I {
+    tell(Call::Number(&limbs));
+    lists.push(limbs)
 }
 
 fn limbs(digits: &str, radix: u32) -> Vec<u32> {

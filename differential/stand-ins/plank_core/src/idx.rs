@@ -1,7 +1,7 @@
 use std::fmt::Debug;
 
 /// A number from 0 to `u32::MAX - 1` with a type of its own.
-pub trait Idx: Copy + Ord + Debug {
+pub trait Idx: Copy + Ord + Debug + 'static {
     const ZERO: Self;
     const MAX_USIZE: usize = (u32::MAX - 1) as usize;
 
@@ -58,6 +58,7 @@ macro_rules! newtype_index {
         impl ::std::ops::AddAssign<u32> for $name {
             fn add_assign(&mut self, more: u32) {
                 *self = *self + more;
+                $crate::counted(self);
             }
         }
     )*};

@@ -1,4 +1,5 @@
 use crate::Idx;
+use hooks::{Call, tell};
 use std::{
     marker::PhantomData,
     ops::{Deref, Index, IndexMut},
@@ -11,13 +12,14 @@ pub struct IndexVec<I, T> {
     index: PhantomData<I>,
 }
 
-impl<I: Idx, T> IndexVec<I, T> {
+impl<I: Idx, T: 'static> IndexVec<I, T> {
     pub fn with_capacity(capacity: usize) -> Self {
         IndexVec { items: Vec::with_capacity(capacity), index: PhantomData }
     }
 
     pub fn push(&mut self, item: T) -> I {
         let place = self.len_idx();
+        tell(Call::Indexed { place: place.get(), item: &item });
         self.items.push(item);
         place
     }
@@ -45,6 +47,7 @@ impl<I: Idx, T> Index<I> for IndexVec<I, T> {
 
 impl<I: Idx, T> IndexMut<I> for IndexVec<I, T> {
     fn index_mut(&mut self, place: I) -> &mut T {
+        tell(Call::Changed(&place));
         &mut self.items[place.idx()]
     }
 }

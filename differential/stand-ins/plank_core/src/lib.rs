@@ -10,3 +10,8 @@ mod span;
 pub use idx::Idx;
 pub use index_vec::IndexVec;
 pub use span::Span;
+
+/// Named by `newtype_index`, as its users know no hooks.
+pub fn counted(index: &dyn std::any::Any) {
+    hooks::tell(hooks::Call::Counted(index));
+}

@@ -1,5 +1,6 @@
 //! Stand-in for `plank_session`: offsets into a source, names, bytes, and the reports made.
 
+use hooks::{Call, tell};
 use plank_core::{IndexVec, Span, newtype_index};
 use std::collections::HashMap;
 
@@ -54,6 +55,7 @@ impl Session {
 
     /// Each call gets a number of its own: nothing compared depends on sharing.
     pub fn intern_bytes(&mut self, bytes: &[u8]) -> BytesId {
+        tell(Call::Bytes(bytes));
         self.bytes.push(bytes.to_vec())
     }
 
@@ -62,6 +64,7 @@ impl Session {
     }
 
     pub fn report(&mut self, kind: u32, detail: u32, span: SourceSpan) {
+        tell(Call::Report);
         self.reports.push(Report { kind, detail, span });
     }
 
