@@ -5,6 +5,7 @@ mod check;
 mod fault;
 mod library;
 mod options;
+mod parse;
 mod record;
 mod run;
 mod shrink;
@@ -15,6 +16,7 @@ use std::{env, process::ExitCode};
 fn main() -> ExitCode {
     match Command::read(env::args().skip(1)) {
         Ok(Command::Lex(options)) => run::lex(&options),
+        Ok(Command::Parse(options)) => parse::parse(&options),
         Ok(Command::Record { file }) => record::write(&file),
         Err(message) => {
             eprintln!("{message}\n{}", options::USAGE);

@@ -1,12 +1,16 @@
 //! The command line.
 
+use crate::parse::{FAULTS, Fault};
 use std::path::PathBuf;
 
-pub const USAGE: &str = "compare lex [--texts N] [--seed S] [--plant]\ncompare record FILE";
+pub const USAGE: &str = "compare lex [--texts N] [--seed S] [--plant]
+compare parse [--texts N] [--seed S] [--plant FAULT]
+compare record FILE";
 
 #[derive(Debug, PartialEq)]
 pub enum Command {
     Lex(LexOptions),
+    Parse(ParseOptions),
     Record { file: PathBuf },
 }
 
@@ -19,10 +23,20 @@ pub struct LexOptions {
     pub plant: bool,
 }
 
+#[derive(Debug, PartialEq)]
+pub struct ParseOptions {
+    /// How many texts are generated, besides the fixed ones.
+    pub texts: usize,
+    pub seed: u64,
+    /// Run against a reference with this fault.
+    pub plant: Option<Fault>,
+}
+
 impl Command {
     pub fn read(mut arguments: impl Iterator<Item = String>) -> Result<Command, String> {
         match arguments.next().as_deref() {
             Some("lex") => Ok(Command::Lex(LexOptions::read(arguments)?)),
+            Some("parse") => Ok(Command::Parse(ParseOptions::read(arguments)?)),
             Some("record") => {
                 let file = arguments.next().ok_or("record needs a file")?;
                 Ok(Command::Record { file: PathBuf::from(file) })
@@ -45,6 +59,28 @@ impl LexOptions {
         }
         Ok(options)
     }
+}
+
+impl ParseOptions {
+    fn read(mut arguments: impl Iterator<Item = String>) -> Result<ParseOptions, String> {
+        let mut options = ParseOptions { texts: 200_000, seed: 1, plant: None };
+        while let Some(argument) = arguments.next() {
+            match argument.as_str() {
+                "--texts" => options.texts = number(arguments.next())?,
+                "--seed" => options.seed = number(arguments.next())?,
+                "--plant" => options.plant = Some(fault(arguments.next())?),
+                _ => return Err(format!("no such option: {argument}")),
+            }
+        }
+        Ok(options)
+    }
+}
+
+fn fault(argument: Option<String>) -> Result<Fault, String> {
+    argument.as_deref().and_then(Fault::named).ok_or_else(|| {
+        let names = FAULTS.map(|(name, _)| name).join(", ");
+        format!("a fault is wanted: {names}")
+    })
 }
 
 fn number<N: std::str::FromStr>(argument: Option<String>) -> Result<N, String> {

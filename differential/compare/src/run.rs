@@ -79,7 +79,7 @@ impl Run {
     }
 }
 
-fn shown(text: &[u8]) -> String {
+pub fn shown(text: &[u8]) -> String {
     const MOST_BYTES: usize = 120;
     match text.get(..MOST_BYTES) {
         Some(start) => format!("\"{}\" .. ({} bytes)", start.escape_ascii(), text.len()),

@@ -1,18 +1,25 @@
 //! Texts for the comparison. The same seed gives the same texts.
 
+mod literals;
 mod mutate;
+mod nests;
 mod non_utf8;
+mod parsing;
 mod rng;
+mod rows;
 mod script;
 mod short;
 mod sized;
 mod soup;
 mod stretch;
 
+pub use nests::nests;
+pub use parsing::ParseTexts;
 pub use rng::Rng;
-pub use script::script;
+pub use rows::{PLACES, short_rows};
+pub use script::{damaged_script, script};
 pub use short::{short_byte_texts, short_texts};
-pub use sized::texts_around_the_limit;
+pub use sized::{long_texts, texts_around_the_limit};
 pub use soup::TOKENS;
 
 /// An endless row of texts of all sorts, most of them below two thousand bytes.

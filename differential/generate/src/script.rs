@@ -1,16 +1,17 @@
 //! Scripts that the wall chart of document 01 derives, with blanks and comments between
 //! their tokens.
 
-use crate::rng::Rng;
+use crate::{rng::Rng, rows::any_token};
 
 /// A script free of reports.
 pub fn script(rng: &mut Rng) -> String {
-    let mut writer = Writer { rng, text: String::new() };
-    writer.trivia();
-    for _ in 0..writer.rng.below(5) {
-        writer.declaration();
-    }
-    writer.text
+    Writer { rng, text: String::new(), damage: 0 }.script()
+}
+
+/// The same with some of its tokens left out, doubled, or changed for others.
+pub fn damaged_script(rng: &mut Rng) -> String {
+    let damage = 4 + rng.below(60);
+    Writer { rng, text: String::new(), damage }.script()
 }
 
 /// May a field list in braces follow an expression?
@@ -53,10 +54,36 @@ const TRIVIA: [&str; 12] = [
 struct Writer<'r> {
     rng: &'r mut Rng,
     text: String,
+    /// One token in so many is damaged; none where it is 0.
+    damage: usize,
 }
 
 impl Writer<'_> {
+    fn script(mut self) -> String {
+        self.trivia();
+        for _ in 0..self.rng.below(5) {
+            self.declaration();
+        }
+        self.text
+    }
+
     fn token(&mut self, spelling: &str) {
+        if self.damage == 0 || !self.rng.chance(1, self.damage) {
+            return self.spell(spelling);
+        }
+        let other = any_token(self.rng);
+        let spellings: &[&str] = match self.rng.below(4) {
+            0 => &[],
+            1 => &[spelling, spelling],
+            2 => &[other],
+            _ => &[other, spelling],
+        };
+        for spelling in spellings {
+            self.spell(spelling);
+        }
+    }
+
+    fn spell(&mut self, spelling: &str) {
         if self.would_join(spelling) {
             self.text.push(' ');
         }

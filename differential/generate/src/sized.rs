@@ -36,6 +36,38 @@ pub fn texts_around_the_limit() -> impl Iterator<Item = Vec<u8>> {
     })
 }
 
+/// What stands before, what fills, and what stands behind.
+const LONG: [(&str, &str, &str); 20] = [
+    ("", "const a = 1; ", ""),
+    ("init { ", "a; ", "}"),
+    ("init { ", "a ", "}"),
+    ("init { ", "b = 1; ", "}"),
+    ("init { ", "{} ", "}"),
+    ("const a = ", "1", ";"),
+    ("const a = 0x", "f", ";"),
+    ("const a = \"", "abcd", "\";"),
+    ("const a = \"", "\\q", "\";"),
+    ("const a = \"", "é", "\";"),
+    ("const a = hex\"", "4f", "\";"),
+    ("const a = ", "\"\" ", ";"),
+    ("const a = b", " + b", ";"),
+    ("const a = b", ".c", ";"),
+    ("const a = b", "(c)", ";"),
+    ("const a = f(", "a,", ");"),
+    ("const a = struct {", "a: b,", "};"),
+    ("const a = match b {", "1=>2,", "};"),
+    ("use a::{", "b,", "};"),
+    ("const a = ", "#", ";"),
+];
+
+/// Texts as long as may be, inside one declaration.
+pub fn long_texts() -> impl Iterator<Item = String> {
+    LONG.iter().map(|(before, filling, behind)| {
+        let room = LIMIT - before.len() - behind.len();
+        format!("{before}{}{behind}", filling.repeat(room / filling.len()))
+    })
+}
+
 fn filled(filling: &str, length: usize) -> Vec<u8> {
     filling.bytes().cycle().take(length).collect()
 }
