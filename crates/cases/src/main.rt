@@ -1,7 +1,11 @@
-// Replays the recorded answers of the Rust lexer (data/lexed) and says which texts the lexer answers otherwise.
+// Replays the recorded answers of the Rust lexer (data/lexed) and says which texts the lexer answers otherwise; then those of the
+// Rust parser.
 ghost use Prim.Native.Nat.{_+_, _*_, _≤_, _<_};
 ghost use lib.ListN.{length};
 ghost use Rattle.cases.specs.Within.{Within, FoundWithin};
+
+mod trees;
+
 use lexer::Lexed;
 use libc::STDOUT_FILENO;
 use words::refusal;
@@ -248,7 +252,7 @@ fn replay_all(file: &[u8]) {
     replay(file, &mut tokens, number(file, 0));
 }
 
-fn main() {
+fn replay_lexed() {
     let path = b"lexed";
     let fd = os::open_read(path);
     if fd < 0 {
@@ -264,4 +268,9 @@ fn main() {
         return;
     }
     replay_all(&file[..n]);
+}
+
+fn main() {
+    replay_lexed();
+    trees::replay_data();
 }

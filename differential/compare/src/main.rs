@@ -18,6 +18,7 @@ fn main() -> ExitCode {
         Ok(Command::Lex(options)) => run::lex(&options),
         Ok(Command::Parse(options)) => parse::parse(&options),
         Ok(Command::Record { file }) => record::write(&file),
+        Ok(Command::RecordParse { file }) => parse::record(&file),
         Err(message) => {
             eprintln!("{message}\n{}", options::USAGE);
             ExitCode::from(2)

@@ -5,13 +5,15 @@ use std::path::PathBuf;
 
 pub const USAGE: &str = "compare lex [--texts N] [--seed S] [--plant]
 compare parse [--texts N] [--seed S] [--plant FAULT]
-compare record FILE";
+compare record FILE
+compare record-parse FILE";
 
 #[derive(Debug, PartialEq)]
 pub enum Command {
     Lex(LexOptions),
     Parse(ParseOptions),
     Record { file: PathBuf },
+    RecordParse { file: PathBuf },
 }
 
 #[derive(Debug, PartialEq)]
@@ -37,10 +39,8 @@ impl Command {
         match arguments.next().as_deref() {
             Some("lex") => Ok(Command::Lex(LexOptions::read(arguments)?)),
             Some("parse") => Ok(Command::Parse(ParseOptions::read(arguments)?)),
-            Some("record") => {
-                let file = arguments.next().ok_or("record needs a file")?;
-                Ok(Command::Record { file: PathBuf::from(file) })
-            }
+            Some("record") => Ok(Command::Record { file: file(arguments.next())? }),
+            Some("record-parse") => Ok(Command::RecordParse { file: file(arguments.next())? }),
             _ => Err("no such command".to_string()),
         }
     }
@@ -74,6 +74,10 @@ impl ParseOptions {
         }
         Ok(options)
     }
+}
+
+fn file(argument: Option<String>) -> Result<PathBuf, String> {
+    argument.map(PathBuf::from).ok_or("record needs a file".to_string())
 }
 
 fn fault(argument: Option<String>) -> Result<Fault, String> {

@@ -23,10 +23,13 @@ const CORNERS: &[&str] = &[
 
 pub fn write(file: &Path) -> ExitCode {
     let texts = sample();
-    let bytes = encode(&texts);
-    match fs::write(file, &bytes) {
+    save(file, texts.len(), &encode(&texts))
+}
+
+pub fn save(file: &Path, records: usize, bytes: &[u8]) -> ExitCode {
+    match fs::write(file, bytes) {
         Ok(()) => {
-            println!("{} records, {} bytes", texts.len(), bytes.len());
+            println!("{records} records, {} bytes", bytes.len());
             ExitCode::SUCCESS
         }
         Err(error) => {
@@ -60,7 +63,7 @@ fn encode(texts: &[String]) -> Vec<u8> {
     bytes
 }
 
-fn number(value: usize) -> [u8; 4] {
+pub fn number(value: usize) -> [u8; 4] {
     (value as u32).to_le_bytes()
 }
 

@@ -16,7 +16,7 @@ mod stretch;
 pub use nests::nests;
 pub use parsing::ParseTexts;
 pub use rng::Rng;
-pub use rows::{PLACES, short_rows};
+pub use rows::short_rows;
 pub use script::{damaged_script, script};
 pub use short::{short_byte_texts, short_texts};
 pub use sized::{long_texts, texts_around_the_limit};

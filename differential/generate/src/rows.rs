@@ -4,7 +4,7 @@ use crate::{rng::Rng, soup::TOKENS};
 
 /// A token for each that the parser tells from the others; of the binary operators one of some
 /// levels.
-pub const GRAMMAR: [&str; 54] = [
+const GRAMMAR: [&str; 54] = [
     ";", ",", ":", ".", "$", "{", "}", "(", ")", "::", "=>", "=", "+", "-", "*", "==", "<", "!",
     "~", "&", "or", "if", "else", "fn", "eager", "let", "mut", "const", "init", "run", "struct",
     "tuple", "return", "comptime", "inline", "while", "true", "pub", "use", "as", "match", "Self",
@@ -12,7 +12,7 @@ pub const GRAMMAR: [&str; 54] = [
 ];
 
 /// What stands before a row and behind it.
-pub const PLACES: [(&str, &str); 44] = [
+const PLACES: [(&str, &str); 46] = [
     ("", ""),
     ("init {", "}"),
     ("run { a; ", "} const b = 1;"),
@@ -24,6 +24,8 @@ pub const PLACES: [(&str, &str); 44] = [
     ("use a::", ";"),
     ("use a::{", "};"),
     ("use a::{b, ", "};"),
+    ("use a::{b::", "};"),
+    ("use a::{b ", ", c};"),
     ("use a ", ";"),
     ("pub ", ""),
     ("const a = (", ");"),

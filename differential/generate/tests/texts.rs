@@ -1,4 +1,8 @@
-use generate::{Rng, TOKENS, Texts, script, short_byte_texts, short_texts, texts_around_the_limit};
+use generate::{
+    ParseTexts, Rng, TOKENS, Texts, long_texts, nests, script, short_byte_texts, short_rows,
+    short_texts, texts_around_the_limit,
+};
+use oracle::End;
 use std::collections::HashSet;
 
 const EOF: u32 = 81;
@@ -57,4 +61,42 @@ fn short_texts_are_all_there() {
     for text in ["", "é", "==>", "hex\"", "0b1_", "//\r;", "/**/"] {
         assert!(short_texts().any(|short| short == text.as_bytes()), "{text:?}");
     }
+}
+
+#[test]
+fn a_seed_gives_the_same_parse_texts() {
+    let texts = |seed| ParseTexts::new(seed).take(500).collect::<Vec<_>>();
+    assert_eq!(texts(7), texts(7));
+    assert_ne!(texts(7), texts(8));
+}
+
+#[test]
+fn parse_texts_have_every_kind_of_node_and_report() {
+    let (mut nodes, mut reports) = (HashSet::new(), HashSet::new());
+    for text in ParseTexts::new(1).take(4000) {
+        let run = oracle::run(&text);
+        reports.extend(run.reports.chunks(3).map(|report| report[0] >> 26));
+        if let End::Read(words) = run.end {
+            nodes.extend(words.nodes.chunks(5).map(|node| node[0] >> 26));
+        }
+    }
+    assert_eq!(nodes, (0..50).collect());
+    // Kind 16 is not the reference's.
+    assert_eq!(reports, (1..16).collect());
+}
+
+#[test]
+fn nests_meet_the_depth_from_both_sides() {
+    let texts: Vec<String> = nests().filter(|text| text.len() < 600).collect();
+    let ends = |is_wanted: fn(&End) -> bool| {
+        texts.iter().filter(|text| is_wanted(&oracle::run(text).end)).count()
+    };
+    assert!(ends(|end| *end == End::TooDeep) > 100);
+    assert!(ends(|end| matches!(end, End::Read(_))) > 100);
+}
+
+#[test]
+fn rows_and_long_texts() {
+    assert_eq!(short_rows().count(), 46 * (1 + 54 + 54 * 54));
+    assert!(long_texts().all(|text| (65_000..=65_536).contains(&text.len())));
 }

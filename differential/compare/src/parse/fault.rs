@@ -108,7 +108,7 @@ mod tests {
         for (name, fault) in FAULTS {
             let text = match fault {
                 Fault::Depth => deep.as_str(),
-                _ => "const a: b = (c - 18446744073709551617); init { d e } const f = ;",
+                _ => "const a: b = (c - 18446744073709551618); init { d e } const f = ;",
             };
             let run = oracle::run(text);
             let mut planted = run.clone();
