@@ -87,12 +87,9 @@ fn parse_texts_have_every_kind_of_node_and_report() {
 
 #[test]
 fn nests_meet_the_depth_from_both_sides() {
-    let texts: Vec<String> = nests().filter(|text| text.len() < 600).collect();
-    let ends = |is_wanted: fn(&End) -> bool| {
-        texts.iter().filter(|text| is_wanted(&oracle::run(text).end)).count()
-    };
-    assert!(ends(|end| *end == End::TooDeep) > 100);
-    assert!(ends(|end| matches!(end, End::Read(_))) > 100);
+    let ends: Vec<End> = nests().step_by(7).map(|text| oracle::run(&text).end).collect();
+    assert!(ends.iter().filter(|end| **end == End::TooDeep).count() > 100);
+    assert!(ends.iter().filter(|end| matches!(end, End::Read(_))).count() > 100);
 }
 
 #[test]

@@ -33,6 +33,15 @@ fn words_that_dont_fit() {
     assert_eq!(refused("const a = \"s\" ;", 15, 0, 0), Some((6, 8)));
 }
 
+/// Those in docs/DIFFERENCES.md.
+#[test]
+fn small_texts() {
+    assert_eq!(refused("run\"", 15, 0, 3), Some((6, 2)));
+    assert_eq!(refused("a", 5, 0, 0), Some((7, 0)));
+    assert_eq!(too_deep(&format!("run{}", "{".repeat(129))), Some(129));
+    assert_eq!(too_deep(&format!("run{}", "{".repeat(128))), None);
+}
+
 #[test]
 fn depth_of_brackets() {
     assert_eq!(too_deep(&in_brackets(255, "1")), None);
