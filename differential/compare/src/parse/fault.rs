@@ -53,7 +53,7 @@ impl Fault {
                     run.steps.iter_mut().filter(|taken| matches!(taken.step, Step::Value { .. }));
                 values.for_each(|taken| taken.cursor -= 1);
             }
-            Fault::Depth => run.cursor += 1,
+            Fault::Depth => run.cursor += u32::from(run.end == End::TooDeep),
             _ => {
                 if let End::Read(words) = &mut run.end {
                     words.nodes.chunks_mut(5).for_each(|node| self.plant_in_node(node));
