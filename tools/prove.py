@@ -87,7 +87,7 @@ def at(things, thing):
 def shared(term):
     """A term that names several places, with each bound once, from the nearest on: a long one is checked sooner."""
     place = r"\bc((?: \.before)+) \.(?!before)([^\s().,]+)"
-    named = {len(found.group(1).split()): "at-" + found.group(2) for found in re.finditer(place, term)}
+    named = {len(found.group(1).split()): "at-" + found.group(2).strip("«»") for found in re.finditer(place, term)}
     if len(named) < 2:
         return term
     bound, nearest, steps = [], "c", 0
@@ -152,6 +152,7 @@ def answer(need, answers, things):
     if need.startswith("same-length") and need not in answers and things:
         term = same_length(need, things) or term
     term = re.sub(r"@lengths\b", lambda found: ", ".join(kept_lengths(things, k) for k in range(3)), term)
+    term = re.sub(r"@@([«»A-Za-z0-9-]+)", lambda found: "(" + at(things, found.group(1)).rpartition(" .")[0] + ")", term)
     term = re.sub(r"@([«»A-Za-z0-9-]+)", lambda found: at(things, found.group(1)), term)
     return unfolding, term
 

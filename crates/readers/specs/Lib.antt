@@ -1,0 +1,5 @@
+pub mod Readers
+pub mod Level
+pub mod Same
+pub mod Programs
+pub mod Segments
