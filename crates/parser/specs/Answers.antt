@@ -1,0 +1,53 @@
+-- What parsing answers, in document 01's terms, and that the file's reading comes to it.
+use mathlib.Core.Path.{_≡_, refl, sym, _∙_, ap}
+use mathlib.Core.Bool.{Bool, true, false}
+use mathlib.Core.List.{List, [], _∷_}
+use Prim.Native.Nat.{ℕ, _-_}
+use native.Mathlib.Omega.{arith}
+use borrow.Author.Tests.{eq-eqb, ne-eqb}
+use lib.Dec.{eqb}
+use lib.ListN.{length, replicate}
+use Rattle.words.specs.Answer.{Answer}
+use Rattle.words.specs.Answer as Answer
+use Rattle.lexer.specs.Walk.{cleared}
+use Rattle.definition.specs.Prog.{Memory, memory, Out, done, refused}
+use Rattle.definition.specs.Declarations.{parseFile}
+use Rattle.definition.specs.Parse.{maxDepth, start, zeros, parsedTo, parsedWithin, parsed}
+use Rattle.definition.specs.Parse.{Parsed as Definition}
+use Rattle.reading.specs.declared.Reading.{Reading}
+use Rattle.reading.specs.Does.{Does, run}
+use Rattle.parser.specs.declared.Parsed.{Parsed}
+use Rattle.parser.specs.declared.Parsed.the-variants.{Counts, Refused}
+
+-- "Success returns the counts of nodes, value words and reports", "a refusal returns number and place" (01).
+abbrev pub answer : Parsed → Answer
+answer (Counts nodes values reports) = Answer.done (nodes ∷ values ∷ reports ∷ [])
+answer (Refused number place) = Answer.refused number place
+
+-- An answer, and the words of nodes, values and reports when it is given.
+abbrev pub given : Parsed → Memory → Definition
+given p words = record { answer = answer p; words = words }
+
+-- As many words, all 0.
+abbrev pub zeroed : List ℕ → List ℕ
+zeroed words = replicate (length words) 0
+
+pub cleared-all : (words : List ℕ) → cleared words 0 ≡ zeroed words
+cleared-all words = let e : length words - 0 ≡ length words = omega arith in ap (λ (n : ℕ). replicate n 0) e
+
+-- Where reading begins.
+abbrev pub begun : List ℕ → Reading
+begun tokens = record { state = start tokens; refusal = 0; place = 0 }
+
+module _ {text tokens : List ℕ} (n v w : ℕ) {file : ℕ} {r : Reading} {m : Memory} (e : Does text tokens maxDepth parseFile (begun tokens) (zeros n v w) file r m) where
+  came-to : (o : Out ℕ) → o ≡ run text tokens maxDepth parseFile (start tokens) (zeros n v w) → parsedTo (zeros n v w) o ≡ parsed text tokens n v w
+  unfolding parsed parsedWithin
+  came-to o h = ap (parsedTo (zeros n v w)) h
+
+  pub read : r .refusal ≡ 0 → given (Counts (r .state .nodes) (r .state .values) (r .state .reports)) m ≡ parsed text tokens n v w
+  unfolding parsedTo
+  read h = came-to (done file (r .state) m) (rw (eq-eqb (r .refusal) 0 h) at (e .is))
+
+  pub refuses : (r .refusal ≡ 0 → ⊥) → given (Refused (r .refusal) (r .place)) (zeros n v w) ≡ parsed text tokens n v w
+  unfolding parsedTo
+  refuses h = came-to (refused (r .refusal) (r .place)) (rw (ne-eqb (r .refusal) 0 h) at (e .is))
