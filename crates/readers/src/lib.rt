@@ -117,7 +117,7 @@ pub fn expr(
             let it = right.it;
             steps::close_unary(e, right.at, text, tokens, nodes, values, reports, u, it)
         }
-        Element::Missing => operand(e, head.at, text, tokens, nodes, values, reports),
+        Element::Missing => atom(e, head.at, text, tokens, nodes, values, reports),
     };
     let mut at = first.at;
     let it = first.it;
@@ -131,7 +131,7 @@ pub fn expr(
             break;
         }
         turns -= 1;
-        let post = postfix(
+        let after = post(
             e,
             at,
             text,
@@ -144,16 +144,16 @@ pub fn expr(
             head.start,
             left,
         );
-        let it = post.it;
+        let it = after.it;
         match it {
             Maybe::Some(n) => {
                 left = n;
-                at = post.at;
+                at = after.at;
             }
             Maybe::None => {
                 let infix = steps::infix(
                     e,
-                    post.at,
+                    after.at,
                     text,
                     tokens,
                     nodes,
@@ -233,7 +233,7 @@ pub fn must(
 }
 
 // An expression that no `{` goes on from, and a block: what follows `if`, `while` and a function's parameters.
-fn guard(
+fn test(
     d: u32,
     s: Reading,
     text: &[u8],
@@ -284,7 +284,7 @@ fn guard(
 }
 
 // What goes on from an expression and is no binary operator: a member, a call or a struct literal.
-fn postfix(
+fn post(
     d: u32,
     s: Reading,
     text: &[u8],
@@ -343,7 +343,7 @@ fn postfix(
 }
 
 // `try_parse_standalone_expr`
-fn operand(
+fn atom(
     d: u32,
     s: Reading,
     text: &[u8],
@@ -393,9 +393,9 @@ fn operand(
             ))
         }
         3 => some(func(d, at, text, tokens, nodes, values, reports, start, false)),
-        4 => some(struct_def(d, at, text, tokens, nodes, values, reports, start)),
-        5 => some(types(d, at, text, tokens, nodes, values, reports, start)),
-        _ => branch(d, at, text, tokens, nodes, values, reports),
+        4 => some(strct(d, at, text, tokens, nodes, values, reports, start)),
+        5 => some(tys(d, at, text, tokens, nodes, values, reports, start)),
+        _ => fork(d, at, text, tokens, nodes, values, reports),
     }
 }
 
@@ -431,7 +431,7 @@ fn whole(n: Got) -> Stmt
 }
 
 // An operand that is a block, an `if` or a `match`.
-fn branch(
+fn fork(
     d: u32,
     s: Reading,
     text: &[u8],
@@ -480,7 +480,7 @@ fn branch(
     let subject = eat(d, at, text, tokens, nodes, values, reports, token::MATCH);
     let at = subject.at;
     if subject.is {
-        return some(select(d, at, text, tokens, nodes, values, reports, start));
+        return some(pick(d, at, text, tokens, nodes, values, reports, start));
     }
     Found {
         it: Maybe::None,
@@ -620,11 +620,11 @@ fn func(
     ensures { λ r. ⌜ Does (now (text .entry)) (now (tokens .entry)) d (parseFunctionDef start eager) s (memory (now (nodes .entry)) (now (values .entry)) (now (reports .entry))) (r .it) (r .at) (memory (now (nodes .exit)) (now (values .exit)) (now (reports .exit))) ⌝ }
 {
     let u = steps::open_fn(d, s, text, tokens, nodes, values, reports, start, eager);
-    let u = sign(d, u.at, text, tokens, nodes, values, reports, u.it);
+    let u = sig(d, u.at, text, tokens, nodes, values, reports, u.it);
     close_node(d, u.at, text, tokens, nodes, values, reports, u.it)
 }
 
-fn method(
+fn meth(
     d: u32,
     s: Reading,
     text: &[u8],
@@ -636,12 +636,12 @@ fn method(
     ensures { λ r. ⌜ Does (now (text .entry)) (now (tokens .entry)) d parseMethodDef s (memory (now (nodes .entry)) (now (values .entry)) (now (reports .entry))) (r .it) (r .at) (memory (now (nodes .exit)) (now (values .exit)) (now (reports .exit))) ⌝ }
 {
     let u = steps::open_method(d, s, text, tokens, nodes, values, reports);
-    let u = sign(d, u.at, text, tokens, nodes, values, reports, u.it);
+    let u = sig(d, u.at, text, tokens, nodes, values, reports, u.it);
     close_node(d, u.at, text, tokens, nodes, values, reports, u.it)
 }
 
 // `parse_function_signature_and_body`
-fn sign(
+fn sig(
     d: u32,
     s: Reading,
     text: &[u8],
@@ -664,7 +664,7 @@ fn sign(
         node::PARAM_LIST,
         token::LEFT_ROUND,
     );
-    let list = params(d, list.at, text, tokens, nodes, values, reports, list.it);
+    let list = pars(d, list.at, text, tokens, nodes, values, reports, list.it);
     let u = steps::end_list(
         d,
         list.at,
@@ -677,10 +677,10 @@ fn sign(
         list.it,
         u,
     );
-    guard(d, u.at, text, tokens, nodes, values, reports, u.it)
+    test(d, u.at, text, tokens, nodes, values, reports, u.it)
 }
 
-fn params(
+fn pars(
     d: u32,
     s: Reading,
     text: &[u8],
@@ -701,7 +701,7 @@ fn params(
             break;
         }
         turns -= 1;
-        let found = param(d, at, text, tokens, nodes, values, reports, list);
+        let found = par(d, at, text, tokens, nodes, values, reports, list);
         let it = found.it;
         match it {
             Element::More(u) => {
@@ -745,7 +745,7 @@ fn params(
     Opened { it: list, at }
 }
 
-fn param(
+fn par(
     d: u32,
     s: Reading,
     text: &[u8],
@@ -797,7 +797,7 @@ fn param(
 
 // ---- structs and tuple types
 
-fn struct_def(
+fn strct(
     d: u32,
     s: Reading,
     text: &[u8],
@@ -821,10 +821,10 @@ fn struct_def(
         node::STRUCT_DEF,
         0,
     );
-    let found = index(d, u.at, text, tokens, nodes, values, reports);
+    let found = idx(d, u.at, text, tokens, nodes, values, reports);
     let it = found.it;
     let both = steps::open_body(d, found.at, text, tokens, nodes, values, reports, u.it, it);
-    let all = inside(d, both.at, text, tokens, nodes, values, reports, both.inner);
+    let all = inner(d, both.at, text, tokens, nodes, values, reports, both.inner);
     steps::end_body(
         d,
         all.at,
@@ -839,7 +839,7 @@ fn struct_def(
 }
 
 // What stands between `struct` and `{`.
-fn index(
+fn idx(
     d: u32,
     s: Reading,
     text: &[u8],
@@ -880,7 +880,7 @@ fn index(
     )
 }
 
-fn inside(
+fn inner(
     d: u32,
     s: Reading,
     text: &[u8],
@@ -928,13 +928,13 @@ fn inside(
             token::FN,
         );
         if fun.is {
-            let n = method(d, fun.at, text, tokens, nodes, values, reports);
+            let n = meth(d, fun.at, text, tokens, nodes, values, reports);
             let more = push_child(d, n.at, text, tokens, nodes, values, reports, body, n.it);
             body = more.it;
             at = more.at;
             seen = true;
         } else {
-            let more = member(d, fun.at, text, tokens, nodes, values, reports, body, seen);
+            let more = mem(d, fun.at, text, tokens, nodes, values, reports, body, seen);
             body = more.it;
             at = more.at;
         }
@@ -943,7 +943,7 @@ fn inside(
 }
 
 // A member that is no method: a field, or none.
-fn member(
+fn mem(
     d: u32,
     s: Reading,
     text: &[u8],
@@ -1030,7 +1030,7 @@ fn field(
     )
 }
 
-fn types(
+fn tys(
     d: u32,
     s: Reading,
     text: &[u8],
@@ -1064,7 +1064,7 @@ fn types(
         reports,
         token::LEFT_CURLY,
     );
-    let all = items(
+    let all = elems(
         d,
         open.at,
         text,
@@ -1089,7 +1089,7 @@ fn types(
 }
 
 // Expressions up to what ends them: the elements of a tuple type, and the arguments of a call.
-fn items(
+fn elems(
     d: u32,
     s: Reading,
     text: &[u8],
@@ -1194,7 +1194,7 @@ fn call(
         left,
         token::LEFT_ROUND,
     );
-    let all = items(
+    let all = elems(
         d,
         u.at,
         text,
@@ -1412,7 +1412,7 @@ fn cond(
         node::IF,
         0,
     );
-    let u = guard(d, u.at, text, tokens, nodes, values, reports, u.it);
+    let u = test(d, u.at, text, tokens, nodes, values, reports, u.it);
     let list = open_here(
         d,
         u.at,
@@ -1424,7 +1424,7 @@ fn cond(
         node::ELSE_IF_BRANCH_LIST,
         0,
     );
-    let all = elses(d, list.at, text, tokens, nodes, values, reports, list.it);
+    let all = alts(d, list.at, text, tokens, nodes, values, reports, list.it);
     let last = all.last;
     parts::close_if(
         d,
@@ -1440,7 +1440,7 @@ fn cond(
     )
 }
 
-fn elses(
+fn alts(
     d: u32,
     s: Reading,
     text: &[u8],
@@ -1525,12 +1525,12 @@ fn elif(
         node::ELSE_IF_BRANCH,
         0,
     );
-    let u = guard(d, u.at, text, tokens, nodes, values, reports, u.it);
+    let u = test(d, u.at, text, tokens, nodes, values, reports, u.it);
     let n = close_node(d, u.at, text, tokens, nodes, values, reports, u.it);
     push_child(d, n.at, text, tokens, nodes, values, reports, list, n.it)
 }
 
-fn select(
+fn pick(
     d: u32,
     s: Reading,
     text: &[u8],
@@ -1756,7 +1756,7 @@ fn stmt(
     match it {
         0 => {
             let keyword = expect(d, at, text, tokens, nodes, values, reports, token::WHILE);
-            whole(repeat(
+            whole(rep(
                 d,
                 keyword.at,
                 text,
@@ -1768,7 +1768,7 @@ fn stmt(
                 node::INLINE_WHILE_STMT,
             ))
         }
-        1 => whole(repeat(
+        1 => whole(rep(
             d,
             at,
             text,
@@ -1780,9 +1780,9 @@ fn stmt(
             node::WHILE_STMT,
         )),
         2 => ret(d, at, text, tokens, nodes, values, reports, start),
-        3 => fixed(d, at, text, tokens, nodes, values, reports, start),
+        3 => comp(d, at, text, tokens, nodes, values, reports, start),
         4 => whole(bind(d, at, text, tokens, nodes, values, reports, start, false)),
-        _ => plain(d, at, text, tokens, nodes, values, reports, start),
+        _ => bare(d, at, text, tokens, nodes, values, reports, start),
     }
 }
 
@@ -1795,7 +1795,7 @@ const STATEMENTS: [u32; 5] = [
     token::LET,
 ];
 
-fn repeat(
+fn rep(
     d: u32,
     s: Reading,
     text: &[u8],
@@ -1809,7 +1809,7 @@ fn repeat(
     ensures { λ r. ⌜ Does (now (text .entry)) (now (tokens .entry)) d (whileStmt start kind) s (memory (now (nodes .entry)) (now (values .entry)) (now (reports .entry))) (r .it) (r .at) (memory (now (nodes .exit)) (now (values .exit)) (now (reports .exit))) ⌝ }
 {
     let u = open_from(d, s, text, tokens, nodes, values, reports, start, kind, 0);
-    let u = guard(d, u.at, text, tokens, nodes, values, reports, u.it);
+    let u = test(d, u.at, text, tokens, nodes, values, reports, u.it);
     close_node(d, u.at, text, tokens, nodes, values, reports, u.it)
 }
 
@@ -1828,7 +1828,7 @@ fn bind(
     ensures { λ r. ⌜ Does (now (text .entry)) (now (tokens .entry)) d (parseLetStmt start comptime) s (memory (now (nodes .entry)) (now (values .entry)) (now (reports .entry))) (r .it) (r .at) (memory (now (nodes .exit)) (now (values .exit)) (now (reports .exit))) ⌝ }
 {
     let head = steps::open_let(d, s, text, tokens, nodes, values, reports, start, comptime);
-    let u = sort(
+    let u = ty(
         d,
         head.at,
         text,
@@ -1856,7 +1856,7 @@ fn bind(
 }
 
 // The type of a `let`, where a colon was read.
-fn sort(
+fn ty(
     d: u32,
     s: Reading,
     text: &[u8],
@@ -1924,7 +1924,7 @@ fn ret(
 }
 
 // After `comptime`.
-fn fixed(
+fn comp(
     d: u32,
     s: Reading,
     text: &[u8],
@@ -2006,7 +2006,7 @@ fn fixed(
     parts::comptime_error(d, local.at, text, tokens, nodes, values, reports, start)
 }
 
-fn assign(
+fn put(
     d: u32,
     s: Reading,
     text: &[u8],
@@ -2044,7 +2044,7 @@ fn assign(
 }
 
 // A statement that begins with an expression.
-fn plain(
+fn bare(
     d: u32,
     s: Reading,
     text: &[u8],
@@ -2079,14 +2079,14 @@ fn plain(
             let at = after.at;
             let it = after.it;
             match it {
-                After::Assign => assign(d, at, text, tokens, nodes, values, reports, start, n),
+                After::Assign => put(d, at, text, tokens, nodes, values, reports, start, n),
                 After::Whole(result) => Stmt { it: result, at },
             }
         }
     }
 }
 
-fn stmts(
+fn seq(
     d: u32,
     s: Reading,
     text: &[u8],
@@ -2167,7 +2167,7 @@ pub fn block(
     }
     let e = d - 1;
     let both = steps::open_block(e, s, text, tokens, nodes, values, reports, start, kind);
-    let all = stmts(e, both.at, text, tokens, nodes, values, reports, both.inner);
+    let all = seq(e, both.at, text, tokens, nodes, values, reports, both.inner);
     let closing = all.closing;
     parts::close_block(
         e,
