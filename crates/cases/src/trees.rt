@@ -73,6 +73,10 @@ fn part(file: &[u8], start: usize, end: usize) -> &[u8] {
 // The record at a place, or that the data end inside it.
 fn tree_at(file: &[u8], at: usize) -> Found {
     let size = file.len();
+    // So that no sum wraps.
+    if LONGEST_DATA < size {
+        return Found::Cut;
+    }
     if size < at {
         return Found::Cut;
     }
@@ -106,7 +110,8 @@ fn tree_at(file: &[u8], at: usize) -> Found {
 
 // The try at a place; where the data end before it, one that lends nothing and is done: no text is read so.
 fn try_at(file: &[u8], at: usize) -> Try {
-    if file.len() < at {
+    // So that no sum wraps.
+    if LONGEST_DATA < at {
         return Try {
             nodes: 0,
             values: 0,
@@ -169,6 +174,20 @@ fn are_zero(nodes: &[u32], values: &[u32], reports: &[u32]) -> bool {
     is_recorded(reports, &[])
 }
 
+// What the parser answers; the words that are lent hold the pattern before.
+fn parse_marked(
+    text: &[u8],
+    tokens: &[u32],
+    nodes: &mut [u32],
+    values: &mut [u32],
+    reports: &mut [u32],
+) -> Parsed {
+    mark(nodes);
+    mark(values);
+    mark(reports);
+    parser::parse(text, tokens, nodes, values, reports)
+}
+
 // Whether the parser answers a try as recorded. The slices have the lengths of the try.
 fn is_answered(
     file: &[u8],
@@ -179,16 +198,8 @@ fn is_answered(
     values: &mut [u32],
     reports: &mut [u32],
 ) -> bool {
-    mark(nodes);
-    mark(values);
-    mark(reports);
-    match parser::parse(
-        part(file, tree.text, tree.text_end),
-        tokens,
-        nodes,
-        values,
-        reports,
-    ) {
+    let text = part(file, tree.text, tree.text_end);
+    match parse_marked(text, tokens, nodes, values, reports) {
         Parsed::Counts(n, v, r) => {
             if t.number != 0 {
                 return false;
@@ -254,7 +265,8 @@ fn are_tries_same(
 ) -> bool {
     let mut at = tree.tries;
     let end = tree.next;
-    if file.len() < end {
+    // So that no sum wraps.
+    if LONGEST_DATA < end {
         return false;
     }
     if end <= at {
@@ -314,6 +326,14 @@ fn replay_tree(file: &[u8], at: usize) -> Turn {
     }
 }
 
+fn print_differs(n: usize) {
+    print_number(b"tree ", n, b" differs\n");
+}
+
+fn print_cut(n: usize) {
+    print_number(b"data cut at tree ", n, b"\n");
+}
+
 fn print_end(size: usize, at: usize, trees: usize, differences: usize) {
     if at != size {
         print_number(b"data go on after tree ", trees, b"\n");
@@ -334,12 +354,12 @@ fn replay(file: &[u8], records: u32) {
                 at = next;
             }
             Turn::Differs(next) => {
-                print_number(b"tree ", n as usize, b" differs\n");
+                print_differs(n as usize);
                 differences += 1;
                 at = next;
             }
             Turn::Cut => {
-                print_number(b"data cut at tree ", n as usize, b"\n");
+                print_cut(n as usize);
                 return;
             }
         }
@@ -349,7 +369,7 @@ fn replay(file: &[u8], records: u32) {
 
 fn replay_all(file: &[u8]) {
     if file.len() < 4 {
-        print_number(b"data cut at tree ", 0, b"\n");
+        print_cut(0);
         return;
     }
     replay(file, number(file, 0));
