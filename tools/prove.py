@@ -448,7 +448,9 @@ def hold_alone(crate, fn):
         spec = dashed(fn.split("/")[-1]) + "-spec"
         held = f"use {module}.{{statement}}\n\npub {spec} : {{M : Type 1}} → statement M\n{spec} 𝓤 H 𝓜 𝓖 𝓡 = ?\n"
         write(path, held)
-        os.remove(os.path.join(KEPT, crate + ".mark")) if os.path.exists(os.path.join(KEPT, crate + ".mark")) else None
+        mark = os.path.join(KEPT, crate + ".mark")
+        if os.path.exists(mark):
+            os.remove(mark)
 
 
 def stub(crate, fn, tie, lts):
