@@ -1,0 +1,101 @@
+-- Worked cases: P6, P7, P8, P11 and P12 of 01, and rows that are refused.
+use mathlib.Core.Path.{_≡_, refl, sym, _∙_, subst}
+use mathlib.Core.Logic.{inl, inr}
+use mathlib.Core.List.{List, [], _∷_, _++_}
+use Prim.Native.Nat.{ℕ, _+_}
+use Rattle.literals.specs.Spelling.{spelling}
+use Rattle.words.specs.Token
+use Rattle.words.specs.Node
+use Rattle.words.specs.UnaryOp
+use Rattle.words.specs.BinaryOp
+use Rattle.chart.specs.Row.{Lexeme, RowToken, begins, token}
+use Rattle.chart.specs.Tree.{Trees, _⊕_, branch, listed, named, number, none}
+use Rattle.chart.specs.Chart.{either, within, lookup, operatorOf, binaryTree, isBlockLike, Derives, file}
+use Rattle.chart.specs.Parser.{Outcome, if, on, bind, try, onLevel, onOp, push, readList, readFields, readOn, readElseIfs, readRound, readStruct, readOperand, readPrefix, readLevel, readExpression, readComptime, readStatement, readStatements, readBlock, readers, readDeclaration, readDeclarations, readFile, parse, ok, nothing, failed, deep}
+use Rattle.chart.specs.Outcome.{not-fail}
+use Rattle.chart.specs.Complete.{complete}
+
+-- A token whose number and spelling don't matter.
+sign : ℕ → RowToken
+sign kind = token kind (record { number = 0; spelling = [] })
+
+-- A name of one letter, with its token number.
+abbrev letter : ℕ → ℕ → Lexeme
+letter i c = record { number = i; spelling = c ∷ [] }
+
+-- `const z = `, an expression and `;`.
+abbrev constant : List RowToken → List RowToken
+constant xs = sign Token.Const ∷ token Token.Identifier (letter 2 122) ∷ sign Token.Equals ∷ xs ++ (sign Token.Semicolon ∷ [])
+
+constantTree : Trees → Trees
+constantTree t = branch Node.File 0 (branch Node.ConstDecl 0 (named (letter 2 122) ⊕ t) ⊕ none)
+
+-- P6: `a - b - c` groups left.
+p6 : parse 5 (constant (token Token.Identifier (letter 6 97) ∷ sign Token.Minus ∷ token Token.Identifier (letter 10 98) ∷ sign Token.Minus ∷ token Token.Identifier (letter 14 99) ∷ []))
+  ≡ ok (constantTree (binaryTree BinaryOp.Minus (binaryTree BinaryOp.Minus (named (letter 6 97)) (named (letter 10 98))) (named (letter 14 99)))) []
+unfolding sign constantTree parse readFile readers readLevel readPrefix readBlock readOperand readRound readStruct readComptime readElseIfs readFields readList readOn onOp onLevel readDeclarations readDeclaration readStatements readStatement readExpression begins on if bind try operatorOf lookup within either isBlockLike push
+p6 = refl
+
+-- Comparisons group left too: `a < b < c`.
+chain : parse 5 (constant (token Token.Identifier (letter 6 97) ∷ sign Token.LessThan ∷ token Token.Identifier (letter 10 98) ∷ sign Token.LessThan ∷ token Token.Identifier (letter 14 99) ∷ []))
+  ≡ ok (constantTree (binaryTree BinaryOp.LessThan (binaryTree BinaryOp.LessThan (named (letter 6 97)) (named (letter 10 98))) (named (letter 14 99)))) []
+unfolding sign constantTree parse readFile readers readLevel readPrefix readBlock readOperand readRound readStruct readComptime readElseIfs readFields readList readOn onOp onLevel readDeclarations readDeclaration readStatements readStatement readExpression begins on if bind try operatorOf lookup within either isBlockLike push
+chain = refl
+
+-- P7: `-a.b` negates the member.
+p7 : parse 5 (constant (sign Token.Minus ∷ token Token.Identifier (letter 7 97) ∷ sign Token.Dot ∷ token Token.Identifier (letter 9 98) ∷ []))
+  ≡ ok (constantTree (branch Node.UnaryExpr UnaryOp.Minus (branch Node.MemberExpr 0 (named (letter 7 97) ⊕ named (letter 9 98))))) []
+unfolding sign constantTree parse readFile readers readLevel readPrefix readBlock readOperand readRound readStruct readComptime readElseIfs readFields readList readOn onOp onLevel readDeclarations readDeclaration readStatements readStatement readExpression begins on if bind try operatorOf lookup within either isBlockLike push
+p7 = refl
+
+-- `init`, and a block of these tokens.
+abbrev inBlock : List RowToken → List RowToken
+inBlock xs = sign Token.Init ∷ sign Token.LeftCurly ∷ xs ++ (sign Token.RightCurly ∷ [])
+
+abbrev blockTree : Trees → Trees → Trees
+blockTree us e = branch Node.File 0 (branch Node.InitBlock 0 (listed Node.StatementsList us e) ⊕ none)
+
+-- P11: `init { {} (a) }` is one call.
+p11 : parse 9 (inBlock (sign Token.LeftCurly ∷ sign Token.RightCurly ∷ sign Token.LeftRound ∷ token Token.Identifier (letter 8 97) ∷ sign Token.RightRound ∷ []))
+  ≡ ok (blockTree none (branch Node.CallExpr 0 (branch Node.Block 0 (listed Node.StatementsList none none) ⊕ named (letter 8 97)))) []
+unfolding sign parse readFile readers readLevel readPrefix readBlock readOperand readRound readStruct readComptime readElseIfs readFields readList readOn onOp onLevel readDeclarations readDeclaration readStatements readStatement readExpression begins on if bind try operatorOf lookup within either isBlockLike push
+p11 = refl
+
+-- P12: `init { comptime {} (a) }` is a block, then a ParenExpr.
+p12 : parse 9 (inBlock (sign Token.Comptime ∷ sign Token.LeftCurly ∷ sign Token.RightCurly ∷ sign Token.LeftRound ∷ token Token.Identifier (letter 10 97) ∷ sign Token.RightRound ∷ []))
+  ≡ ok (blockTree (branch Node.ComptimeBlock 0 (listed Node.StatementsList none none) ⊕ none) (branch Node.ParenExpr 0 (named (letter 10 97)))) []
+unfolding sign parse readFile readers readLevel readPrefix readBlock readOperand readRound readStruct readComptime readElseIfs readFields readList readOn onOp onLevel readDeclarations readDeclaration readStatements readStatement readExpression begins on if bind try operatorOf lookup within either isBlockLike push
+p12 = refl
+
+-- A row that the parser refuses has no tree.
+refused : (depth : ℕ) (xs : List RowToken) → parse depth xs ≡ failed → (t : Trees) → ¬ Derives file xs [] t
+refused depth xs e t D = elim (complete xs t D depth) [ inl q ↦ not-fail (sym e ∙ q) | inr q ↦ absurd (failed-deep (sym e ∙ q)) ]
+  where
+    isFailed : Outcome → Type 0
+    isFailed failed = Unit {0}
+    isFailed deep = ⊥
+    isFailed nothing = ⊥
+    isFailed (ok t ys) = ⊥
+    failed-deep : failed ≡ deep → ⊥
+    failed-deep e = subst isFailed e tt
+
+-- `init { a b }`: a statement without `;` that isn't the last.
+no-semicolon : (t : Trees) → ¬ Derives file (inBlock (token Token.Identifier (letter 4 97) ∷ token Token.Identifier (letter 6 98) ∷ [])) [] t
+unfolding sign parse readFile readers readLevel readPrefix readBlock readOperand readRound readStruct readComptime readElseIfs readFields readList readOn onOp onLevel readDeclarations readDeclaration readStatements readStatement readExpression begins on if bind try operatorOf lookup within either isBlockLike push
+no-semicolon = refused 9 _ refl
+
+-- `init { if a {} {} }`: a condition has no field list, so `{}` is its block, and the second `{}` a field list of the If.
+condition : parse 9 (inBlock (sign Token.If ∷ token Token.Identifier (letter 6 97) ∷ sign Token.LeftCurly ∷ sign Token.RightCurly ∷ sign Token.LeftCurly ∷ sign Token.RightCurly ∷ []))
+  ≡ ok (blockTree none (branch Node.StructLit 0 (branch Node.If 0 (named (letter 6 97) ⊕ (branch Node.Block 0 (listed Node.StatementsList none none) ⊕ listed Node.ElseIfBranchList none none)) ⊕ none))) []
+unfolding sign parse readFile readers readLevel readPrefix readBlock readOperand readRound readStruct readComptime readElseIfs readFields readList readOn onOp onLevel readDeclarations readDeclaration readStatements readStatement readExpression begins on if bind try operatorOf lookup within either isBlockLike push
+condition = refl
+
+-- An error token is in no rule.
+error-token : (t : Trees) → ¬ Derives file (constant (sign Token.MalformedIdentError ∷ [])) [] t
+unfolding sign parse readFile readers readLevel readPrefix readBlock readOperand readRound readStruct readComptime readElseIfs readFields readList readOn onOp onLevel readDeclarations readDeclaration readStatements readStatement readExpression begins on if bind try operatorOf lookup within either isBlockLike push
+error-token = refused 9 _ refl
+
+-- A name is never a builtin's: `const @z = 1;`.
+builtin-as-name : (t : Trees) → ¬ Derives file (sign Token.Const ∷ sign Token.BuiltinName ∷ sign Token.Equals ∷ sign Token.True ∷ sign Token.Semicolon ∷ []) [] t
+unfolding sign parse readFile readers readLevel readPrefix readBlock readOperand readRound readStruct readComptime readElseIfs readFields readList readOn onOp onLevel readDeclarations readDeclaration readStatements readStatement readExpression begins on if bind try operatorOf lookup within either isBlockLike push
+builtin-as-name = refused 9 _ refl

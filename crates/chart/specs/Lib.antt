@@ -1,0 +1,11 @@
+pub mod Row
+pub mod Tree
+pub mod Chart
+pub mod Parser
+pub mod Outcome
+pub mod Laws
+pub mod First
+pub mod Rules
+pub mod Sound
+pub mod Complete
+pub mod Examples
