@@ -15,7 +15,7 @@ use Rattle.chart.specs.Rules
 use Rattle.chart.specs.Rules.{Read}
 use Rattle.chart.specs.Sound.{s-file}
 
--- every rule begins once
+-- Every rule at once.
 pub read : {n : Nonterminal} {xs ys : List RowToken} {t : Trees} → Derives n xs ys t → Read n xs ys t
 read (Chart.binary a b c) = Rules.r-binary a (read b) (read c)
 read (Chart.tighter a) = Rules.r-tighter (read a)
@@ -145,7 +145,7 @@ derived depth xs t e = s-file depth xs t e
 -- A row has at most one tree.
 pub one-tree : (xs : List RowToken) (t u : Trees) → Derives file xs [] t → Derives file xs [] u → t ≡ u
 one-tree xs t u D E = let a = enough xs t D in let b = enough xs u E in
-  ok-trees (sym (a .1 (suc (a .0 + b .0)) (omega arith)) ∙ b .1 (suc (a .0 + b .0)) (omega arith))
+    ok-trees (sym (a .1 (suc (a .0 + b .0)) (omega arith)) ∙ b .1 (suc (a .0 + b .0)) (omega arith))
 
 -- Where the depth is enough, the parser gives a tree just where the chart derives it. So the bounds that its lists are read with never run out on a row that is derived.
 pub exact : (depth : ℕ) (xs : List RowToken) → ¬ (parse depth xs ≡ deep) → (t : Trees) → (parse depth xs ≡ ok t []) ↔ Derives file xs [] t

@@ -32,19 +32,19 @@ constantTree t = branch Node.File 0 (branch Node.ConstDecl 0 (named (letter 2 12
 
 -- P6: `a - b - c` groups left.
 p6 : parse 5 (constant (token Token.Identifier (letter 6 97) ∷ sign Token.Minus ∷ token Token.Identifier (letter 10 98) ∷ sign Token.Minus ∷ token Token.Identifier (letter 14 99) ∷ []))
-  ≡ ok (constantTree (binaryTree BinaryOp.Minus (binaryTree BinaryOp.Minus (named (letter 6 97)) (named (letter 10 98))) (named (letter 14 99)))) []
+    ≡ ok (constantTree (binaryTree BinaryOp.Minus (binaryTree BinaryOp.Minus (named (letter 6 97)) (named (letter 10 98))) (named (letter 14 99)))) []
 unfolding sign constantTree parse readFile readers readLevel readPrefix readBlock readOperand readRound readStruct readComptime readElseIfs readFields readList readOn onOp onLevel readDeclarations readDeclaration readStatements readStatement readExpression begins on if bind try operatorOf lookup within either isBlockLike push
 p6 = refl
 
 -- Comparisons group left too: `a < b < c`.
 chain : parse 5 (constant (token Token.Identifier (letter 6 97) ∷ sign Token.LessThan ∷ token Token.Identifier (letter 10 98) ∷ sign Token.LessThan ∷ token Token.Identifier (letter 14 99) ∷ []))
-  ≡ ok (constantTree (binaryTree BinaryOp.LessThan (binaryTree BinaryOp.LessThan (named (letter 6 97)) (named (letter 10 98))) (named (letter 14 99)))) []
+    ≡ ok (constantTree (binaryTree BinaryOp.LessThan (binaryTree BinaryOp.LessThan (named (letter 6 97)) (named (letter 10 98))) (named (letter 14 99)))) []
 unfolding sign constantTree parse readFile readers readLevel readPrefix readBlock readOperand readRound readStruct readComptime readElseIfs readFields readList readOn onOp onLevel readDeclarations readDeclaration readStatements readStatement readExpression begins on if bind try operatorOf lookup within either isBlockLike push
 chain = refl
 
 -- P7: `-a.b` negates the member.
 p7 : parse 5 (constant (sign Token.Minus ∷ token Token.Identifier (letter 7 97) ∷ sign Token.Dot ∷ token Token.Identifier (letter 9 98) ∷ []))
-  ≡ ok (constantTree (branch Node.UnaryExpr UnaryOp.Minus (branch Node.MemberExpr 0 (named (letter 7 97) ⊕ named (letter 9 98))))) []
+    ≡ ok (constantTree (branch Node.UnaryExpr UnaryOp.Minus (branch Node.MemberExpr 0 (named (letter 7 97) ⊕ named (letter 9 98))))) []
 unfolding sign constantTree parse readFile readers readLevel readPrefix readBlock readOperand readRound readStruct readComptime readElseIfs readFields readList readOn onOp onLevel readDeclarations readDeclaration readStatements readStatement readExpression begins on if bind try operatorOf lookup within either isBlockLike push
 p7 = refl
 
@@ -57,13 +57,13 @@ blockTree us e = branch Node.File 0 (branch Node.InitBlock 0 (listed Node.Statem
 
 -- P11: `init { {} (a) }` is one call.
 p11 : parse 9 (inBlock (sign Token.LeftCurly ∷ sign Token.RightCurly ∷ sign Token.LeftRound ∷ token Token.Identifier (letter 8 97) ∷ sign Token.RightRound ∷ []))
-  ≡ ok (blockTree none (branch Node.CallExpr 0 (branch Node.Block 0 (listed Node.StatementsList none none) ⊕ named (letter 8 97)))) []
+    ≡ ok (blockTree none (branch Node.CallExpr 0 (branch Node.Block 0 (listed Node.StatementsList none none) ⊕ named (letter 8 97)))) []
 unfolding sign parse readFile readers readLevel readPrefix readBlock readOperand readRound readStruct readComptime readElseIfs readFields readList readOn onOp onLevel readDeclarations readDeclaration readStatements readStatement readExpression begins on if bind try operatorOf lookup within either isBlockLike push
 p11 = refl
 
 -- P12: `init { comptime {} (a) }` is a block, then a ParenExpr.
 p12 : parse 9 (inBlock (sign Token.Comptime ∷ sign Token.LeftCurly ∷ sign Token.RightCurly ∷ sign Token.LeftRound ∷ token Token.Identifier (letter 10 97) ∷ sign Token.RightRound ∷ []))
-  ≡ ok (blockTree (branch Node.ComptimeBlock 0 (listed Node.StatementsList none none) ⊕ none) (branch Node.ParenExpr 0 (named (letter 10 97)))) []
+    ≡ ok (blockTree (branch Node.ComptimeBlock 0 (listed Node.StatementsList none none) ⊕ none) (branch Node.ParenExpr 0 (named (letter 10 97)))) []
 unfolding sign parse readFile readers readLevel readPrefix readBlock readOperand readRound readStruct readComptime readElseIfs readFields readList readOn onOp onLevel readDeclarations readDeclaration readStatements readStatement readExpression begins on if bind try operatorOf lookup within either isBlockLike push
 p12 = refl
 
@@ -76,6 +76,7 @@ refused depth xs e t D = elim (complete xs t D depth) [ inl q ↦ not-fail (sym 
     isFailed deep = ⊥
     isFailed nothing = ⊥
     isFailed (ok t ys) = ⊥
+
     failed-deep : failed ≡ deep → ⊥
     failed-deep e = subst isFailed e tt
 
@@ -86,7 +87,7 @@ no-semicolon = refused 9 _ refl
 
 -- `init { if a {} {} }`: a condition has no field list, so `{}` is its block, and the second `{}` a field list of the If.
 condition : parse 9 (inBlock (sign Token.If ∷ token Token.Identifier (letter 6 97) ∷ sign Token.LeftCurly ∷ sign Token.RightCurly ∷ sign Token.LeftCurly ∷ sign Token.RightCurly ∷ []))
-  ≡ ok (blockTree none (branch Node.StructLit 0 (branch Node.If 0 (named (letter 6 97) ⊕ (branch Node.Block 0 (listed Node.StatementsList none none) ⊕ listed Node.ElseIfBranchList none none)) ⊕ none))) []
+    ≡ ok (blockTree none (branch Node.StructLit 0 (branch Node.If 0 (named (letter 6 97) ⊕ (branch Node.Block 0 (listed Node.StatementsList none none) ⊕ listed Node.ElseIfBranchList none none)) ⊕ none))) []
 unfolding sign parse readFile readers readLevel readPrefix readBlock readOperand readRound readStruct readComptime readElseIfs readFields readList readOn onOp onLevel readDeclarations readDeclaration readStatements readStatement readExpression begins on if bind try operatorOf lookup within either isBlockLike push
 condition = refl
 

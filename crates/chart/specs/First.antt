@@ -16,23 +16,31 @@ abbrev pub among : List ℕ → ℕ → Bool
 among [] k = false
 among (K ∷ r) k = eqb k K || among r k
 
--- what an operand, an expression and others begin with
+-- What an operand, an expression and others begin with.
 abbrev pub operandStart : List ℕ
 operandStart = Token.True ∷ Token.False ∷ Token.DecimalLiteral ∷ Token.HexLiteral ∷ Token.BinLiteral ∷ Token.LooseStringLiteral ∷ Token.LooseHexStringLiteral ∷ Token.SelfType ∷ Token.Identifier ∷ Token.BuiltinName ∷ Token.LeftRound ∷ Token.Comptime ∷ Token.Eager ∷ Token.Fn ∷ Token.Struct ∷ Token.Tuple ∷ Token.LeftCurly ∷ Token.If ∷ Token.Match ∷ []
+
 abbrev pub expressionStart : List ℕ
 expressionStart = Token.Minus ∷ Token.Bang ∷ Token.Tilde ∷ operandStart
+
 abbrev pub armStart : List ℕ
 armStart = Token.Else ∷ expressionStart
+
 abbrev pub statementStart : List ℕ
 statementStart = Token.Inline ∷ Token.While ∷ Token.Return ∷ Token.Let ∷ expressionStart
+
 abbrev pub statementsStart : List ℕ
 statementsStart = Token.RightCurly ∷ statementStart
+
 abbrev pub methodsStart : List ℕ
 methodsStart = Token.RightCurly ∷ Token.Fn ∷ Token.Eager ∷ []
+
 abbrev pub declarationStart : List ℕ
 declarationStart = Token.Init ∷ Token.Run ∷ Token.Const ∷ Token.Pub ∷ Token.Use ∷ []
+
 abbrev pub braceStart : List ℕ
 braceStart = Token.LeftCurly ∷ []
+
 abbrev pub nameStart : List ℕ
 nameStart = Token.Identifier ∷ []
 
@@ -61,7 +69,7 @@ memb-all (K ∷ r) q k a e = go (eqb k K) refl e (memb-all r q k (and-right (q K
     go true h e f = subst (λ n. q n ≡ true) (sym (eqb-true k K h)) (and-left (q K) (all q r) a)
     go false h e f = f e
 
--- what begins with one of l begins with one of q
+-- What begins with one of `l` begins with one of `q`.
 pub widen : (l : List ℕ) (q : ℕ → Bool) (xs : List RowToken) → all q l ≡ true → heads (among l) xs ≡ true → heads q xs ≡ true
 unfolding heads
 widen l q [] a e = e
@@ -89,8 +97,7 @@ pub meth-stops : (xs : List RowToken) → heads (among methodsStart) xs ≡ true
 unfolding operatorOf Chart.lookup Chart.within Chart.either below
 meth-stops xs e = stops methodsStart true 0 xs refl e
 
-
--- what follows an expression: no else, and no string unless the expression is a Block, an If or a Match
+-- What follows an expression: no `else`, and no string unless the expression is a Block, If or Match.
 abbrev pub noStr : ℕ → Bool
 noStr k = not (eqb k Token.LooseStringLiteral || eqb k Token.LooseHexStringLiteral)
 
@@ -112,7 +119,7 @@ calm-fol t (token k v ∷ xs) e = go (not (eqb k Token.Else)) (noStr k) e
     go true false e = absurd (false≢true e)
     go false b e = e
 
--- of an expression that needs its semicolon
+-- For an expression that needs its `;`.
 pub fol-calm : (t : Trees) (xs : List RowToken) → isBlockLike t ≡ false → follows t xs ≡ true → calm xs ≡ true
 unfolding follows calm
 fol-calm t [] h e = refl
@@ -199,7 +206,7 @@ First (binding c) xs = Unit {0}
 First (bindingName c m) xs = heads (among nameStart) xs ≡ true
 First (import p) xs = Unit {0}
 
--- how many tokens each takes begins the least
+-- How many tokens each takes at the least.
 abbrev pub least : Nonterminal → ℕ
 least (level m k) = 1
 least (postfix m) = 1

@@ -21,11 +21,10 @@ below (binaryOf j op) k = ltb j k
 abbrev pub postStart : Bool → ℕ → Bool
 postStart m o = eqb o Token.Dot || (eqb o Token.LeftRound || (m && eqb o Token.LeftCurly))
 
--- the row does not go on with a postfix, nor with an operator of level k or tighter
+-- The row doesn't go on with a postfix, nor with an operator of level `k` or tighter.
 unfoldable pub stop : Bool → ℕ → List RowToken → Bool
 stop m k [] = true
 stop m k (token o v ∷ xs) = not (postStart m o) && below (operatorOf o) k
-
 
 pub to-true : {b : Bool} → T b → b ≡ true
 to-true {b = true} t = refl
@@ -42,7 +41,7 @@ pub and-right : (a b : Bool) → (a && b) ≡ true → b ≡ true
 and-right true b e = e
 and-right false b e = absurd (false≢true e)
 
--- every level of the table is looser than prefix operators
+-- Every level of the table is looser than prefix operators.
 either-low : (b : Bool) (j op : ℕ) (l : Role) → ltb j prefixLevel ≡ true → below l prefixLevel ≡ true → below (either b (binaryOf j op) l) prefixLevel ≡ true
 unfolding either below
 either-low true j op l e f = e
@@ -80,7 +79,7 @@ stop-mono m k k′ (token o v ∷ xs) h e = go (not (postStart m o)) (below (ope
     go true b c f e = f e
     go false b c f e = e
 
--- no operator is as tight as a prefix operator
+-- No operator is as tight as a prefix operator.
 pub stop-top : (m : Bool) (k : ℕ) (xs : List RowToken) → stop m k xs ≡ true → stop m prefixLevel xs ≡ true
 unfolding stop
 stop-top m k [] e = refl
@@ -90,7 +89,7 @@ stop-top m k (token o v ∷ xs) e = go (not (postStart m o)) (below (operatorOf 
     go true b c f e = f
     go false b c f e = e
 
--- the row does not go on with an operator of level k or tighter
+-- The row doesn't go on with an operator of level `k` or tighter.
 unfoldable pub opStop : ℕ → List RowToken → Bool
 opStop k [] = true
 opStop k (token o v ∷ xs) = below (operatorOf o) k
@@ -121,17 +120,19 @@ stop-elim m k (token o v ∷ xs) e = record { dot = d (eqb o Token.Dot) (eqb o T
     d : (p q r s : Bool) → (not (p || (q || r)) && s) ≡ true → p ≡ false
     d true q r s e = absurd (false≢true e)
     d false q r s e = refl
+
     p : (p q r s : Bool) → (not (p || (q || r)) && s) ≡ true → q ≡ false
     p true q r s e = absurd (false≢true e)
     p false true r s e = absurd (false≢true e)
     p false false r s e = refl
+
     b : (p q r s : Bool) → (not (p || (q || r)) && s) ≡ true → r ≡ false
     b true q r s e = absurd (false≢true e)
     b false true r s e = absurd (false≢true e)
     b false false true s e = absurd (false≢true e)
     b false false false s e = refl
 
--- the step begins an operator, forwards and backwards
+-- The step at an operator, forwards and backwards.
 pub op-hit : {B : Type 0} (k o : ℕ) (v : Lexeme) (j op : ℕ) (xs : List RowToken) (h : ℕ → ℕ → List RowToken → Outcome) (m : Outcome) {s : Outcome} → operatorOf o ≡ binaryOf j op → k ≤ j → Meets B (h op j xs) s → Meets B (onOp k (token o v ∷ xs) h m) s
 unfolding onOp onLevel
 op-hit {B} k o v j op xs h m {s} e l g = go (operatorOf o) e
@@ -156,7 +157,7 @@ op-miss {B} k (token o v ∷ xs) h m {s} e g = go (operatorOf o) e
             dec false e = e
 
 pub op-elim : (C : List RowToken → Type 0) (k : ℕ) (xs : List RowToken) (h : ℕ → ℕ → List RowToken → Outcome) (m : Outcome) {s : Outcome} → onOp k xs h m ≡ s
-  → ((o : ℕ) (v : Lexeme) (j op : ℕ) (zs : List RowToken) → operatorOf o ≡ binaryOf j op → k ≤ j → h op j zs ≡ s → C (token o v ∷ zs)) → (opStop k xs ≡ true → m ≡ s → C xs) → C xs
+    → ((o : ℕ) (v : Lexeme) (j op : ℕ) (zs : List RowToken) → operatorOf o ≡ binaryOf j op → k ≤ j → h op j zs ≡ s → C (token o v ∷ zs)) → (opStop k xs ≡ true → m ≡ s → C xs) → C xs
 unfolding onOp opStop onLevel below
 op-elim C k [] h m e f g = g refl e
 op-elim C k (token o v ∷ xs) h m {s} e f g = go (operatorOf o) refl e
@@ -165,7 +166,7 @@ op-elim C k (token o v ∷ xs) h m {s} e f g = go (operatorOf o) refl e
     go notBinary q e = g (rw q refl) e
     go (binaryOf j op) q e = if-elim _ _ _ e (λ b e′. f o v j op xs q (leb-true k j b) e′) (λ b e′. g (rw q (to-true (le→leb (suc j) k (leb-false k j b)))) e′)
 
--- an answer ok, read
+-- Two outcomes with trees agree in both parts.
 treesOf : Outcome → Trees → Trees
 treesOf (ok t ys) u = t
 treesOf nothing u = u
@@ -190,10 +191,10 @@ pub ret : {n : Nonterminal} {xs ys zs : List RowToken} {t u : Trees} → ok t ys
 ret {n} {xs} {ys} {u} e D = subst (λ r. Derives n xs r u) (ok-rest e) (subst (λ r. Derives n xs ys r) (ok-trees e) D)
 
 pub need : (C : List RowToken → Type 0) (K : ℕ) (xs : List RowToken) (h : Lexeme → List RowToken → Outcome) {u : Trees} {ws : List RowToken} → on K xs h failed ≡ ok u ws
-  → ((v : Lexeme) (zs : List RowToken) → h v zs ≡ ok u ws → C (token K v ∷ zs)) → C xs
+    → ((v : Lexeme) (zs : List RowToken) → h v zs ≡ ok u ws → C (token K v ∷ zs)) → C xs
 need C K xs h e f = on-elim C K xs h failed e f (λ _ q. not-fail q)
 
--- 01's list of what a Block, If or Match in mid-block isn't followed by, and what stops an expression
+-- What is none of 01's list of what a Block, If or Match in mid-block isn't followed by stops an expression, and backwards.
 role-loose : (r : Role) → isBinary r ≡ false → below r 0 ≡ true
 unfolding isBinary below
 role-loose notBinary e = refl
@@ -224,12 +225,15 @@ pub ended : (xs : List RowToken) → continues xs ≡ false → Ended xs
 unfolding continues stop begins
 ended [] e = record { stopped = refl; equals = refl; semicolon = refl }
 ended (token k v ∷ xs) e =
-  let a = or-right (eqb k Token.Dot) _ e in
-  let b = or-right (eqb k Token.LeftRound) _ a in
-  let c = or-right (eqb k Token.LeftCurly) _ b in
-  let d = or-right (eqb k Token.Equals) _ c in
-  record { stopped = go (eqb k Token.Dot) (eqb k Token.LeftRound) (eqb k Token.LeftCurly) (below (operatorOf k) 0) (or-left (eqb k Token.Dot) _ e) (or-left (eqb k Token.LeftRound) _ a) (or-left (eqb k Token.LeftCurly) _ b) (role-loose (operatorOf k) (or-right (eqb k Token.Semicolon) _ d));
-    equals = or-left (eqb k Token.Equals) _ c; semicolon = or-left (eqb k Token.Semicolon) _ d }
+    let a = or-right (eqb k Token.Dot) _ e in
+    let b = or-right (eqb k Token.LeftRound) _ a in
+    let c = or-right (eqb k Token.LeftCurly) _ b in
+    let d = or-right (eqb k Token.Equals) _ c in
+    record {
+      stopped = go (eqb k Token.Dot) (eqb k Token.LeftRound) (eqb k Token.LeftCurly) (below (operatorOf k) 0) (or-left (eqb k Token.Dot) _ e) (or-left (eqb k Token.LeftRound) _ a) (or-left (eqb k Token.LeftCurly) _ b) (role-loose (operatorOf k) (or-right (eqb k Token.Semicolon) _ d));
+      equals = or-left (eqb k Token.Equals) _ c;
+      semicolon = or-left (eqb k Token.Semicolon) _ d;
+    }
   where
     go : (p q r s : Bool) → p ≡ false → q ≡ false → r ≡ false → s ≡ true → (not (p || (q || (true && r))) && s) ≡ true
     go p q r s a b c d = rw (a, b, c, d) refl
@@ -238,7 +242,7 @@ pub continues-not : (xs : List RowToken) → stop true 0 xs ≡ true → begins 
 unfolding continues opStop begins
 continues-not [] e f g = refl
 continues-not (token k v ∷ xs) e f g = let s = stop-elim true 0 (token k v ∷ xs) e in
-  go (eqb k Token.Dot) (eqb k Token.LeftRound) (eqb k Token.LeftCurly) (eqb k Token.Equals) (eqb k Token.Semicolon) (isBinary (operatorOf k)) (s .dot) (s .par) (s .brace) f g (loose-role (operatorOf k) (s .op))
+    go (eqb k Token.Dot) (eqb k Token.LeftRound) (eqb k Token.LeftCurly) (eqb k Token.Equals) (eqb k Token.Semicolon) (isBinary (operatorOf k)) (s .dot) (s .par) (s .brace) f g (loose-role (operatorOf k) (s .op))
   where
     go : (a b c d e f : Bool) → a ≡ false → b ≡ false → c ≡ false → d ≡ false → e ≡ false → f ≡ false → (a || (b || (c || (d || (e || f))))) ≡ false
     go a b c d e f p q r s t u = rw (p, q, r, s, t, u) refl

@@ -8,7 +8,7 @@ use Rattle.chart.specs.Row.{Lexeme, RowToken, begins, token}
 use Rattle.chart.specs.Tree.{Trees}
 use Rattle.chart.specs.Parser.{Outcome, if, on, bind, try, ok, nothing, failed, deep}
 
--- r is s, or r ran out of depth, of which B holds
+-- `r` is `s`, or the depth was not enough, and then `B` holds of it.
 pub data Meets (B : Type 0) (r s : Outcome) : Type 0 where
   same : r ≡ s → Meets B r s
   sunk : r ≡ deep → B → Meets B r s
@@ -64,7 +64,7 @@ unfolding try
 try-none k z (same e) g = rw e g
 try-none k z (sunk e b) g = sunk (rw e refl) b
 
--- the other way: what an answer ok says of the parts
+-- Backwards: what it says of the parts that trees were read.
 
 isOk : Outcome → Type 0
 isOk (ok t ys) = Unit {0}
@@ -93,13 +93,13 @@ true-eq : (k K : ℕ) → eqb k K ≡ true → k ≡ K
 true-eq k K e = eqb→eq k K (subst T (sym e) tt)
 
 pub on-elim : (C : List RowToken → Type 0) (K : ℕ) (xs : List RowToken) (h : Lexeme → List RowToken → Outcome) (m : Outcome) {s : Outcome} → on K xs h m ≡ s
-  → ((v : Lexeme) (zs : List RowToken) → h v zs ≡ s → C (token K v ∷ zs)) → (begins K xs ≡ false → m ≡ s → C xs) → C xs
+    → ((v : Lexeme) (zs : List RowToken) → h v zs ≡ s → C (token K v ∷ zs)) → (begins K xs ≡ false → m ≡ s → C xs) → C xs
 unfolding on begins
 on-elim C K [] h m e f g = g refl e
 on-elim C K (token k v ∷ xs) h m e f g = if-elim (eqb k K) _ _ e (λ b q. subst (λ n. C (token n v ∷ xs)) (sym (true-eq k K b)) (f v xs q)) g
 
 pub bind-elim : {C : Type 0} (r : Outcome) {u : Trees} {zs : List RowToken} (k : Trees → List RowToken → Outcome) → bind r k ≡ ok u zs
-  → ((t : Trees) (ys : List RowToken) → r ≡ ok t ys → k t ys ≡ ok u zs → C) → C
+    → ((t : Trees) (ys : List RowToken) → r ≡ ok t ys → k t ys ≡ ok u zs → C) → C
 unfolding bind
 bind-elim (ok t ys) k e f = f t ys refl e
 bind-elim nothing k e f = not-fail e
@@ -107,7 +107,7 @@ bind-elim failed k e f = not-fail e
 bind-elim deep k e f = not-deep e
 
 pub try-elim : {C : Type 0} (r : Outcome) {u : Trees} {zs : List RowToken} (k : Trees → List RowToken → Outcome) (z : Outcome) → try r k z ≡ ok u zs
-  → ((t : Trees) (ys : List RowToken) → r ≡ ok t ys → k t ys ≡ ok u zs → C) → (r ≡ nothing → z ≡ ok u zs → C) → C
+    → ((t : Trees) (ys : List RowToken) → r ≡ ok t ys → k t ys ≡ ok u zs → C) → (r ≡ nothing → z ≡ ok u zs → C) → C
 unfolding try
 try-elim (ok t ys) k z e f g = f t ys refl e
 try-elim nothing k z e f g = g refl e

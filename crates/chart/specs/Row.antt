@@ -24,8 +24,8 @@ unfoldable pub rowFrom : List ℕ → List ℕ → ℕ → List ℕ → List Row
 rowFrom text tokens i [] = []
 rowFrom text tokens i (w ∷ ws) =
     cond (isBlank (tokenKind w))
-      (rowFrom text tokens (suc i) ws)
-      (token (tokenKind w) (record { number = i; spelling = spelling text tokens i }) ∷ rowFrom text tokens (suc i) ws)
+    (rowFrom text tokens (suc i) ws)
+    (token (tokenKind w) (record { number = i; spelling = spelling text tokens i }) ∷ rowFrom text tokens (suc i) ws)
 
 -- "The row is the text's tokens, without Whitespace, line comments, closed block comments and Eof" (01, The wall chart).
 abbrev pub row : List ℕ → List ℕ → List RowToken

@@ -29,14 +29,12 @@ mutual
     _▸_ : Tree → Trees → Trees
 
 infixr 40 _▸_
-
 -- One row of neighbours after the other.
 pub _⊕_ : Trees → Trees → Trees
 none ⊕ us = us
 (t ▸ ts) ⊕ us = t ▸ (ts ⊕ us)
 
 infixr 40 _⊕_
-
 -- A node with children: its kind, its flags or operator.
 unfoldable pub branch : ℕ → ℕ → Trees → Trees
 branch kind f ts = node kind (flags f) ts ▸ none
