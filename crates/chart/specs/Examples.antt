@@ -1,19 +1,29 @@
--- Worked cases: P6, P7, P8, P11 and P12 of 01, and rows that are refused.
+-- Worked cases: P6 to P12 of 01, and rows that have no tree.
 use mathlib.Core.Path.{_≡_, refl, sym, _∙_, subst}
 use mathlib.Core.Logic.{inl, inr}
 use mathlib.Core.List.{List, [], _∷_, _++_}
 use Prim.Native.Nat.{ℕ, _+_}
 use Rattle.literals.specs.Spelling.{spelling}
+use Prim.Native.Char.{code}
+use Prim.Native.String
+use Prim.Native.String.{String}
+use Rattle.utf8.specs.Utf8
+use Rattle.literals.specs.Numbers
+use Rattle.literals.specs.Strings
 use Rattle.words.specs.Token
 use Rattle.words.specs.Node
 use Rattle.words.specs.UnaryOp
 use Rattle.words.specs.BinaryOp
 use Rattle.chart.specs.Row.{Lexeme, RowToken, begins, token}
-use Rattle.chart.specs.Tree.{Trees, _⊕_, branch, listed, named, number, none}
+use Rattle.chart.specs.Tree.{Trees, _⊕_, branch, listed, named, number, none, leaf, stringTree, quiet}
 use Rattle.chart.specs.Chart.{either, within, lookup, operatorOf, binaryTree, isBlockLike, Derives, file}
-use Rattle.chart.specs.Parser.{Outcome, if, on, bind, try, onLevel, onOp, push, readList, readFields, readOn, readElseIfs, readRound, readStruct, readOperand, readPrefix, readLevel, readExpression, readComptime, readStatement, readStatements, readBlock, readers, readDeclaration, readDeclarations, readFile, parse, ok, nothing, failed, deep}
+use Rattle.chart.specs.Parser.{Outcome, if, on, bind, try, onLevel, onOp, push, readList, readFields, readOn, readElseIfs, readRound, readStruct, readOperand, readPrefix, readLevel, readExpression, readComptime, readStatement, readStatements, readBlock, readers, readDeclaration, readDeclarations, readFile, parse, ok, nothing, failed, deep, prepend, readStrings}
 use Rattle.chart.specs.Outcome.{not-fail}
 use Rattle.chart.specs.Complete.{complete}
+
+abbrev ascii : String → List ℕ
+ascii String.[] = []
+ascii (String._∷_ c s) = code c ∷ ascii s
 
 -- A token whose number and spelling don't matter.
 sign : ℕ → RowToken
@@ -100,3 +110,27 @@ error-token = refused 9 _ refl
 builtin-as-name : (t : Trees) → ¬ Derives file (sign Token.Const ∷ sign Token.BuiltinName ∷ sign Token.Equals ∷ sign Token.True ∷ sign Token.Semicolon ∷ []) [] t
 unfolding sign parse readFile readers readLevel readPrefix readBlock readOperand readRound readStruct readComptime readElseIfs readFields readList readOn onOp onLevel readDeclarations readDeclaration readStatements readStatement readExpression begins on if bind try operatorOf lookup within either isBlockLike push
 builtin-as-name = refused 9 _ refl
+
+-- A token that is spelled so.
+spelled : ℕ → String → RowToken
+spelled kind s = token kind (record { number = 0; spelling = ascii s })
+
+-- P8: `"a\x41" hex"42"` is one literal with the bytes 97, 65, 66.
+p8 : parse 5 (constant (spelled Token.LooseStringLiteral "\"a\\x41\"" ∷ spelled Token.LooseHexStringLiteral "hex\"42\"" ∷ []))
+    ≡ ok (constantTree (stringTree (97 ∷ 65 ∷ 66 ∷ []))) []
+unfolding sign spelled constantTree parse readFile readers readLevel readPrefix readBlock readOperand readRound readStruct readComptime readElseIfs readFields readList readOn onOp onLevel readDeclarations readDeclaration readStatements readStatement readExpression begins on if bind try operatorOf lookup within either isBlockLike push Numbers.nibble Numbers.digits Utf8.has Utf8.follow Utf8.sequenceBy Utf8.table Utf8.leadBits Utf8.joined Utf8.codePoint Utf8.characterAt Strings.charactersFrom Strings.run Strings.endAfter Strings.escape Strings.twoDigits Strings.escaped Strings.decodedPiece Strings.decodedFrom Strings.decodeString Strings.badDigit Strings.isBad Strings.digitOr0 Strings.hexFrom Strings.decodeHex Strings.bytesOf quiet prepend readStrings
+p8 = refl
+
+-- P9 and P10: strings that decode with a report have no tree.
+p9 : (t : Trees) → ¬ Derives file (constant (spelled Token.LooseHexStringLiteral "hex\"4g\"" ∷ [])) [] t
+unfolding sign spelled parse readFile readers readLevel readPrefix readBlock readOperand readRound readStruct readComptime readElseIfs readFields readList readOn onOp onLevel readDeclarations readDeclaration readStatements readStatement readExpression begins on if bind try operatorOf lookup within either isBlockLike push Numbers.nibble Numbers.digits Utf8.has Utf8.follow Utf8.sequenceBy Utf8.table Utf8.leadBits Utf8.joined Utf8.codePoint Utf8.characterAt Strings.charactersFrom Strings.run Strings.endAfter Strings.escape Strings.twoDigits Strings.escaped Strings.decodedPiece Strings.decodedFrom Strings.decodeString Strings.badDigit Strings.isBad Strings.digitOr0 Strings.hexFrom Strings.decodeHex Strings.bytesOf quiet prepend readStrings
+p9 = refused 9 _ refl
+
+p10 : (t : Trees) → ¬ Derives file (constant (spelled Token.LooseHexStringLiteral "hex\"4\"" ∷ [])) [] t
+unfolding sign spelled parse readFile readers readLevel readPrefix readBlock readOperand readRound readStruct readComptime readElseIfs readFields readList readOn onOp onLevel readDeclarations readDeclaration readStatements readStatement readExpression begins on if bind try operatorOf lookup within either isBlockLike push Numbers.nibble Numbers.digits Utf8.has Utf8.follow Utf8.sequenceBy Utf8.table Utf8.leadBits Utf8.joined Utf8.codePoint Utf8.characterAt Strings.charactersFrom Strings.run Strings.endAfter Strings.escape Strings.twoDigits Strings.escaped Strings.decodedPiece Strings.decodedFrom Strings.decodeString Strings.badDigit Strings.isBad Strings.digitOr0 Strings.hexFrom Strings.decodeHex Strings.bytesOf quiet prepend readStrings
+p10 = refused 9 _ refl
+
+-- `0x1_F` is the number 31.
+hexadecimal : parse 5 (constant (spelled Token.HexLiteral "0x1_F" ∷ [])) ≡ ok (constantTree (leaf Node.NumLiteral (number 31))) []
+unfolding sign spelled constantTree parse readFile readers readLevel readPrefix readBlock readOperand readRound readStruct readComptime readElseIfs readFields readList readOn onOp onLevel readDeclarations readDeclaration readStatements readStatement readExpression begins on if bind try operatorOf lookup within either isBlockLike push Numbers.nibble Numbers.digits Utf8.has Utf8.follow Utf8.sequenceBy Utf8.table Utf8.leadBits Utf8.joined Utf8.codePoint Utf8.characterAt Strings.charactersFrom Strings.run Strings.endAfter Strings.escape Strings.twoDigits Strings.escaped Strings.decodedPiece Strings.decodedFrom Strings.decodeString Strings.badDigit Strings.isBad Strings.digitOr0 Strings.hexFrom Strings.decodeHex Strings.bytesOf quiet prepend readStrings
+hexadecimal = refl

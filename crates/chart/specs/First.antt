@@ -89,6 +89,15 @@ name-at (token k v ∷ xs) e = rw (go (eqb k Token.Identifier) e) refl
     go true e = refl
     go false e = e
 
+pub brace-at : (xs : List RowToken) → heads (among braceStart) xs ≡ true → begins Token.LeftCurly xs ≡ true
+unfolding heads begins
+brace-at [] e = e
+brace-at (token k v ∷ xs) e = rw (go (eqb k Token.LeftCurly) e) refl
+  where
+    go : (b : Bool) → (b || false) ≡ true → b ≡ true
+    go true e = refl
+    go false e = e
+
 pub brace-stops : (xs : List RowToken) → heads (among braceStart) xs ≡ true → stop false 0 xs ≡ true
 unfolding operatorOf Chart.lookup Chart.within Chart.either below
 brace-stops xs e = stops braceStart false 0 xs refl e

@@ -223,10 +223,12 @@ readExpression R xs k = bind (R .expr true 0 xs) (λ t ys.
     (on Token.RightCurly ys (λ _ zs. ok (listed Node.StatementsList none t) zs)
     (if (isBlockLike t) (k t ys) failed))))
 
--- After `comptime` at the start of a statement.
+-- After `comptime` at the start of a statement; a block is entered, which counts for the depth, only where `{` is next.
 unfoldable pub readComptime : Readers → List RowToken → (Trees → List RowToken → Outcome) → Outcome
 readComptime R ys k = on Token.Let ys (λ _ zs. bind (readBinding R true zs) (λ t ws. k t ws))
+    (if (begins Token.LeftCurly ys)
     (bind (R .block ys) (λ b zs. on Token.Semicolon zs (λ _ ws. k (branch Node.ComptimeBlock 0 b) ws) (on Token.RightCurly zs (λ _ ws. ok (listed Node.StatementsList none (branch Node.ComptimeBlock 0 b)) ws) (k (branch Node.ComptimeBlock 0 b) zs))))
+    failed)
 
 unfoldable pub readStatement : Readers → List RowToken → (Trees → List RowToken → Outcome) → Outcome
 readStatement R xs k =

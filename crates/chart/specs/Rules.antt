@@ -18,7 +18,7 @@ use Rattle.chart.specs.Chart.{operatorOf, prefixLevel, binaryTree, isBlo
 use Rattle.chart.specs.Parser.{Outcome, if, on, bind, try, Readers, push, prepend, readList, readElements, readFields, readOn, readStrings, readElseIfs, readArm, readArms, readParameterType, readParameter, readParameters, readSignature, readMethods, readStructBody, readRound, readStruct, readOperand, readPrefix, readLevel, readBindingName, readBinding, readExpression, readComptime, readStatement, readStatements, readBlock, readers, goesOn, readPath, readItem, readItems, readImport, readDeclaration, readDeclarations, readFile, ok, nothing}
 use Rattle.chart.specs.Outcome.{Meets, good-ok, weaken, good-trans, if-true, if-false, on-hit, on-miss, bind-good, try-good, try-none, same, sunk}
 use Rattle.chart.specs.Laws.{below, stop, to-true, stop-mono, stop-top, opStop, stop-intro, stop-elim, op-hit, op-miss, ended}
-use Rattle.chart.specs.First.{among, operandStart, expressionStart, armStart, statementStart, statementsStart, methodsStart, declarationStart, braceStart, nameStart, heads, apart, widen, name-at, brace-stops, meth-stops, follows, calm, calm-fol, fol-calm, fol-else, fol-block, calm-str, calm-hstr, calms, First, least}
+use Rattle.chart.specs.First.{among, operandStart, expressionStart, armStart, statementStart, statementsStart, methodsStart, declarationStart, braceStart, nameStart, heads, apart, widen, name-at, brace-at, brace-stops, meth-stops, follows, calm, calm-fol, fol-calm, fol-else, fol-block, calm-str, calm-hstr, calms, First, least}
 
 unfoldable pub less : ℕ → ℕ
 less zero = zero
@@ -831,7 +831,7 @@ r-closing-comptime {xs} D = record {
   first = refl;
   takes = omega arith;
   size = D .size;
-  claim = λ d n l. fuelled (readStatements (readers d)) _ n l (λ i l. on-miss _ _ _ _ refl (enter-ct _ _ _ _ (on-miss _ _ _ _ (apart (among braceStart) Token.Let xs refl (D .first)) (bind-good _ (weaken (λ b. omega arith) (D .claim d)) (on-miss _ _ _ _ refl (on-hit _ _ _ _ _ (good-ok)))))));
+  claim = λ d n l. fuelled (readStatements (readers d)) _ n l (λ i l. on-miss _ _ _ _ refl (enter-ct _ _ _ _ (on-miss _ _ _ _ (apart (among braceStart) Token.Let xs refl (D .first)) (if-true _ _ _ (brace-at xs (D .first)) (bind-good _ (weaken (λ b. omega arith) (D .claim d)) (on-miss _ _ _ _ refl (on-hit _ _ _ _ _ (good-ok))))))));
 }
 
 pub r-while : {v : Lexeme} {xs ys zs : List RowToken} {c b : Trees} → Read (level false 0) xs ys c → Read block ys zs b → Read statement (token Token.While v ∷ xs) zs (branch Node.WhileStmt 0 (c ⊕ branch Node.Block 0 b))
@@ -867,7 +867,7 @@ r-comptime-semicolon {xs} D = record {
   first = refl;
   takes = omega arith;
   size = D .size;
-  claim = λ d k el se. enter-ct _ _ _ _ (on-miss _ _ _ _ (apart (among braceStart) Token.Let xs refl (D .first)) (bind-good _ (weaken (λ b. omega arith) (D .claim d)) (on-hit _ _ _ _ _ (good-ok))));
+  claim = λ d k el se. enter-ct _ _ _ _ (on-miss _ _ _ _ (apart (among braceStart) Token.Let xs refl (D .first)) (if-true _ _ _ (brace-at xs (D .first)) (bind-good _ (weaken (λ b. omega arith) (D .claim d)) (on-hit _ _ _ _ _ (good-ok)))));
 }
 
 pub r-comptime-mid : {w : Lexeme} {xs ys : List RowToken} {b : Trees} → Read block xs ys b → begins Token.RightCurly ys ≡ false → Read statement (token Token.Comptime w ∷ xs) ys (branch Node.ComptimeBlock 0 b)
@@ -876,7 +876,7 @@ r-comptime-mid {xs} D nr = record {
   first = refl;
   takes = omega arith;
   size = D .size;
-  claim = λ d k el se. enter-ct _ _ _ _ (on-miss _ _ _ _ (apart (among braceStart) Token.Let xs refl (D .first)) (bind-good _ (weaken (λ b. omega arith) (D .claim d)) (on-miss _ _ _ _ se (on-miss _ _ _ _ nr good-ok))));
+  claim = λ d k el se. enter-ct _ _ _ _ (on-miss _ _ _ _ (apart (among braceStart) Token.Let xs refl (D .first)) (if-true _ _ _ (brace-at xs (D .first)) (bind-good _ (weaken (λ b. omega arith) (D .claim d)) (on-miss _ _ _ _ se (on-miss _ _ _ _ nr good-ok)))));
 }
 
 pub r-comptime-let : {v w : Lexeme} {xs ys : List RowToken} {t : Trees} → Read (binding true) xs ys t → Read statement (token Token.Comptime v ∷ token Token.Let w ∷ xs) ys t

@@ -346,11 +346,11 @@ module _ (R : Readers) (S : Sound R) where
       λ _ e. on-elim (λ xs. ((t : Trees) (ys : List RowToken) → Derives statement xs ys t → k t ys ≡ ok us rs → C) → (Derives statements xs rs us × Listed Node.StatementsList us → C) → C) _ _ _ _ e
       (λ v ys e. on-elim (λ ys. ((t : Trees) (zs : List RowToken) → Derives statement (token Token.Comptime v ∷ ys) zs t → k t zs ≡ ok us rs → C) → (Derives statements (token Token.Comptime v ∷ ys) rs us × Listed Node.StatementsList us → C) → C) _ _ _ _ e
       (λ w zs e f g. bind-elim _ _ e λ t ws q e. f _ _ (Chart.comptime-let (s-binding true zs ws t q)) e)
-      (λ _ e f g. bind-elim _ _ e λ b zs q e. on-elim (λ zs. Derives block ys zs b → C) _ _ _ _ e
+      (λ _ e f g. if-elim _ _ _ e (λ _ e. bind-elim _ _ e λ b zs q e. on-elim (λ zs. Derives block ys zs b → C) _ _ _ _ e
       (λ _ ws e D. f _ _ (Chart.comptime-semicolon D) e)
       (λ ns e. on-elim (λ zs. begins Token.Semicolon zs ≡ false → Derives block ys zs b → C) _ _ _ _ e
       (λ _ ws e _ D. g (ret-both (Listed Node.StatementsList) e (Chart.closing-comptime D, isList _ _)))
-      (λ nr e ns D. f _ _ (Chart.comptime-mid D nr) e) ns) (sb q)))
+      (λ nr e ns D. f _ _ (Chart.comptime-mid D nr) e) ns) (sb q)) (λ _ e. not-fail e)))
       λ nc e. on-elim (λ xs. begins Token.Comptime xs ≡ false → ((t : Trees) (ys : List RowToken) → Derives statement xs ys t → k t ys ≡ ok us rs → C) → (Derives statements xs rs us × Listed Node.StatementsList us → C) → C) _ _ _ _ e
       (λ v ys e _ f g. bind-elim _ _ e λ t zs q e. f _ _ (Chart.let-rule (s-binding false ys zs t q)) e)
       (λ _ e nc f g. bind-elim _ _ e λ t ys q e. let D = S .expr true 0 xs ys t (lit≤ tt) q in
