@@ -1,6 +1,6 @@
 -- The grammar of scripts: 01's section "The wall chart", rule for rule. A rule says what row of tokens a tree has, and nothing of how it is found.
 use mathlib.Core.Path.{_≡_}
-use mathlib.Core.Bool.{Bool, true, false, _||_}
+use mathlib.Core.Bool.{Bool, true, false, cond, _||_}
 use mathlib.Core.List.{List, [], _∷_, _++_}
 use Prim.Native.Nat.{ℕ, suc, _+_}
 use lib.Dec.{eqb}
@@ -42,14 +42,10 @@ pub data Role : Type 0 where
   notBinary : Role
   binaryOf : ℕ → ℕ → Role
 
-unfoldable pub either : Bool → Role → Role → Role
-either true a b = a
-either false a b = b
-
 -- The role of a token in the row of a level; `rest` is that in the rows of tighter levels.
 unfoldable pub within : ℕ → List Operator → ℕ → Role → Role
 within level [] kind rest = rest
-within level (operator k op ∷ r) kind rest = either (eqb kind k) (binaryOf level op) (within level r kind rest)
+within level (operator k op ∷ r) kind rest = cond (eqb kind k) (binaryOf level op) (within level r kind rest)
 
 -- The role of a token in the rows from a level on.
 unfoldable pub lookup : ℕ → List (List Operator) → ℕ → Role
@@ -523,12 +519,12 @@ pub data Derives : Nonterminal → List RowToken → List RowToken → Trees →
   let-rule : {v : Lexeme} {xs ys : List RowToken} {t : Trees}
       → Derives (binding false) xs ys t
       → Derives statement (token Token.Let v ∷ xs) ys t
-  -- Expression `;`.
+  -- Expression `;`. One that begins with `comptime` has rules of its own.
   semicolon : {v : Lexeme} {xs ys : List RowToken} {t : Trees}
       → begins Token.Comptime xs ≡ false
       → Derives (level true 0) xs (token Token.Semicolon v ∷ ys) t
       → Derives statement xs ys t
-  -- Expression `=` expression `;`.
+  -- Expression `=` expression `;`. One that begins with `comptime` has rules of its own.
   assign : {v w : Lexeme} {xs ys zs : List RowToken} {t u : Trees}
       → begins Token.Comptime xs ≡ false
       → Derives (level true 0) xs (token Token.Equals v ∷ ys) t

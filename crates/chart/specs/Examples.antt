@@ -8,15 +8,18 @@ use Prim.Native.Char.{code}
 use Prim.Native.String
 use Prim.Native.String.{String}
 use Rattle.utf8.specs.Utf8
+use Rattle.literals.specs.Spelling
 use Rattle.literals.specs.Numbers
 use Rattle.literals.specs.Strings
+use Rattle.words.specs.Words
+use Rattle.words.specs.Words.{tokenWord}
 use Rattle.words.specs.Token
 use Rattle.words.specs.Node
 use Rattle.words.specs.UnaryOp
 use Rattle.words.specs.BinaryOp
-use Rattle.chart.specs.Row.{Lexeme, RowToken, begins, token}
+use Rattle.chart.specs.Row.{Lexeme, RowToken, begins, token, row, rowFrom, isBlank}
 use Rattle.chart.specs.Tree.{Trees, _⊕_, branch, listed, named, number, none, leaf, stringTree, quiet}
-use Rattle.chart.specs.Chart.{either, within, lookup, operatorOf, binaryTree, isBlockLike, Derives, file}
+use Rattle.chart.specs.Chart.{within, lookup, operatorOf, binaryTree, isBlockLike, Derives, file}
 use Rattle.chart.specs.Parser.{Outcome, if, on, bind, try, onLevel, onOp, push, readList, readFields, readOn, readElseIfs, readRound, readStruct, readOperand, readPrefix, readLevel, readExpression, readComptime, readStatement, readStatements, readBlock, readers, readDeclaration, readDeclarations, readFile, parse, ok, nothing, failed, deep, prepend, readStrings}
 use Rattle.chart.specs.Outcome.{not-fail}
 use Rattle.chart.specs.Complete.{complete}
@@ -43,19 +46,19 @@ constantTree t = branch Node.File 0 (branch Node.ConstDecl 0 (named (letter 2 12
 -- P6: `a - b - c` groups left.
 p6 : parse 5 (constant (token Token.Identifier (letter 6 97) ∷ sign Token.Minus ∷ token Token.Identifier (letter 10 98) ∷ sign Token.Minus ∷ token Token.Identifier (letter 14 99) ∷ []))
     ≡ ok (constantTree (binaryTree BinaryOp.Minus (binaryTree BinaryOp.Minus (named (letter 6 97)) (named (letter 10 98))) (named (letter 14 99)))) []
-unfolding sign constantTree parse readFile readers readLevel readPrefix readBlock readOperand readRound readStruct readComptime readElseIfs readFields readList readOn onOp onLevel readDeclarations readDeclaration readStatements readStatement readExpression begins on if bind try operatorOf lookup within either isBlockLike push
+unfolding sign constantTree parse readFile readers readLevel readPrefix readBlock readOperand readRound readStruct readComptime readElseIfs readFields readList readOn onOp onLevel readDeclarations readDeclaration readStatements readStatement readExpression begins on if bind try operatorOf lookup within isBlockLike push
 p6 = refl
 
 -- Comparisons group left too: `a < b < c`.
 chain : parse 5 (constant (token Token.Identifier (letter 6 97) ∷ sign Token.LessThan ∷ token Token.Identifier (letter 10 98) ∷ sign Token.LessThan ∷ token Token.Identifier (letter 14 99) ∷ []))
     ≡ ok (constantTree (binaryTree BinaryOp.LessThan (binaryTree BinaryOp.LessThan (named (letter 6 97)) (named (letter 10 98))) (named (letter 14 99)))) []
-unfolding sign constantTree parse readFile readers readLevel readPrefix readBlock readOperand readRound readStruct readComptime readElseIfs readFields readList readOn onOp onLevel readDeclarations readDeclaration readStatements readStatement readExpression begins on if bind try operatorOf lookup within either isBlockLike push
+unfolding sign constantTree parse readFile readers readLevel readPrefix readBlock readOperand readRound readStruct readComptime readElseIfs readFields readList readOn onOp onLevel readDeclarations readDeclaration readStatements readStatement readExpression begins on if bind try operatorOf lookup within isBlockLike push
 chain = refl
 
 -- P7: `-a.b` negates the member.
 p7 : parse 5 (constant (sign Token.Minus ∷ token Token.Identifier (letter 7 97) ∷ sign Token.Dot ∷ token Token.Identifier (letter 9 98) ∷ []))
     ≡ ok (constantTree (branch Node.UnaryExpr UnaryOp.Minus (branch Node.MemberExpr 0 (named (letter 7 97) ⊕ named (letter 9 98))))) []
-unfolding sign constantTree parse readFile readers readLevel readPrefix readBlock readOperand readRound readStruct readComptime readElseIfs readFields readList readOn onOp onLevel readDeclarations readDeclaration readStatements readStatement readExpression begins on if bind try operatorOf lookup within either isBlockLike push
+unfolding sign constantTree parse readFile readers readLevel readPrefix readBlock readOperand readRound readStruct readComptime readElseIfs readFields readList readOn onOp onLevel readDeclarations readDeclaration readStatements readStatement readExpression begins on if bind try operatorOf lookup within isBlockLike push
 p7 = refl
 
 -- `init`, and a block of these tokens.
@@ -68,13 +71,13 @@ blockTree us e = branch Node.File 0 (branch Node.InitBlock 0 (listed Node.Statem
 -- P11: `init { {} (a) }` is one call.
 p11 : parse 9 (inBlock (sign Token.LeftCurly ∷ sign Token.RightCurly ∷ sign Token.LeftRound ∷ token Token.Identifier (letter 8 97) ∷ sign Token.RightRound ∷ []))
     ≡ ok (blockTree none (branch Node.CallExpr 0 (branch Node.Block 0 (listed Node.StatementsList none none) ⊕ named (letter 8 97)))) []
-unfolding sign parse readFile readers readLevel readPrefix readBlock readOperand readRound readStruct readComptime readElseIfs readFields readList readOn onOp onLevel readDeclarations readDeclaration readStatements readStatement readExpression begins on if bind try operatorOf lookup within either isBlockLike push
+unfolding sign parse readFile readers readLevel readPrefix readBlock readOperand readRound readStruct readComptime readElseIfs readFields readList readOn onOp onLevel readDeclarations readDeclaration readStatements readStatement readExpression begins on if bind try operatorOf lookup within isBlockLike push
 p11 = refl
 
 -- P12: `init { comptime {} (a) }` is a block, then a ParenExpr.
 p12 : parse 9 (inBlock (sign Token.Comptime ∷ sign Token.LeftCurly ∷ sign Token.RightCurly ∷ sign Token.LeftRound ∷ token Token.Identifier (letter 10 97) ∷ sign Token.RightRound ∷ []))
     ≡ ok (blockTree (branch Node.ComptimeBlock 0 (listed Node.StatementsList none none) ⊕ none) (branch Node.ParenExpr 0 (named (letter 10 97)))) []
-unfolding sign parse readFile readers readLevel readPrefix readBlock readOperand readRound readStruct readComptime readElseIfs readFields readList readOn onOp onLevel readDeclarations readDeclaration readStatements readStatement readExpression begins on if bind try operatorOf lookup within either isBlockLike push
+unfolding sign parse readFile readers readLevel readPrefix readBlock readOperand readRound readStruct readComptime readElseIfs readFields readList readOn onOp onLevel readDeclarations readDeclaration readStatements readStatement readExpression begins on if bind try operatorOf lookup within isBlockLike push
 p12 = refl
 
 -- A row that the parser refuses has no tree.
@@ -92,23 +95,23 @@ refused depth xs e t D = elim (complete xs t D depth) [ inl q ↦ not-fail (sym 
 
 -- `init { a b }`: a statement without `;` that isn't the last.
 no-semicolon : (t : Trees) → ¬ Derives file (inBlock (token Token.Identifier (letter 4 97) ∷ token Token.Identifier (letter 6 98) ∷ [])) [] t
-unfolding sign parse readFile readers readLevel readPrefix readBlock readOperand readRound readStruct readComptime readElseIfs readFields readList readOn onOp onLevel readDeclarations readDeclaration readStatements readStatement readExpression begins on if bind try operatorOf lookup within either isBlockLike push
+unfolding sign parse readFile readers readLevel readPrefix readBlock readOperand readRound readStruct readComptime readElseIfs readFields readList readOn onOp onLevel readDeclarations readDeclaration readStatements readStatement readExpression begins on if bind try operatorOf lookup within isBlockLike push
 no-semicolon = refused 9 _ refl
 
 -- `init { if a {} {} }`: a condition has no field list, so `{}` is its block, and the second `{}` a field list of the If.
 condition : parse 9 (inBlock (sign Token.If ∷ token Token.Identifier (letter 6 97) ∷ sign Token.LeftCurly ∷ sign Token.RightCurly ∷ sign Token.LeftCurly ∷ sign Token.RightCurly ∷ []))
     ≡ ok (blockTree none (branch Node.StructLit 0 (branch Node.If 0 (named (letter 6 97) ⊕ (branch Node.Block 0 (listed Node.StatementsList none none) ⊕ listed Node.ElseIfBranchList none none)) ⊕ none))) []
-unfolding sign parse readFile readers readLevel readPrefix readBlock readOperand readRound readStruct readComptime readElseIfs readFields readList readOn onOp onLevel readDeclarations readDeclaration readStatements readStatement readExpression begins on if bind try operatorOf lookup within either isBlockLike push
+unfolding sign parse readFile readers readLevel readPrefix readBlock readOperand readRound readStruct readComptime readElseIfs readFields readList readOn onOp onLevel readDeclarations readDeclaration readStatements readStatement readExpression begins on if bind try operatorOf lookup within isBlockLike push
 condition = refl
 
 -- An error token is in no rule.
 error-token : (t : Trees) → ¬ Derives file (constant (sign Token.MalformedIdentError ∷ [])) [] t
-unfolding sign parse readFile readers readLevel readPrefix readBlock readOperand readRound readStruct readComptime readElseIfs readFields readList readOn onOp onLevel readDeclarations readDeclaration readStatements readStatement readExpression begins on if bind try operatorOf lookup within either isBlockLike push
+unfolding sign parse readFile readers readLevel readPrefix readBlock readOperand readRound readStruct readComptime readElseIfs readFields readList readOn onOp onLevel readDeclarations readDeclaration readStatements readStatement readExpression begins on if bind try operatorOf lookup within isBlockLike push
 error-token = refused 9 _ refl
 
 -- A name is never a builtin's: `const @z = 1;`.
 builtin-as-name : (t : Trees) → ¬ Derives file (sign Token.Const ∷ sign Token.BuiltinName ∷ sign Token.Equals ∷ sign Token.True ∷ sign Token.Semicolon ∷ []) [] t
-unfolding sign parse readFile readers readLevel readPrefix readBlock readOperand readRound readStruct readComptime readElseIfs readFields readList readOn onOp onLevel readDeclarations readDeclaration readStatements readStatement readExpression begins on if bind try operatorOf lookup within either isBlockLike push
+unfolding sign parse readFile readers readLevel readPrefix readBlock readOperand readRound readStruct readComptime readElseIfs readFields readList readOn onOp onLevel readDeclarations readDeclaration readStatements readStatement readExpression begins on if bind try operatorOf lookup within isBlockLike push
 builtin-as-name = refused 9 _ refl
 
 -- A token that is spelled so.
@@ -118,19 +121,37 @@ spelled kind s = token kind (record { number = 0; spelling = ascii s })
 -- P8: `"a\x41" hex"42"` is one literal with the bytes 97, 65, 66.
 p8 : parse 5 (constant (spelled Token.LooseStringLiteral "\"a\\x41\"" ∷ spelled Token.LooseHexStringLiteral "hex\"42\"" ∷ []))
     ≡ ok (constantTree (stringTree (97 ∷ 65 ∷ 66 ∷ []))) []
-unfolding sign spelled constantTree parse readFile readers readLevel readPrefix readBlock readOperand readRound readStruct readComptime readElseIfs readFields readList readOn onOp onLevel readDeclarations readDeclaration readStatements readStatement readExpression begins on if bind try operatorOf lookup within either isBlockLike push Numbers.nibble Numbers.digits Utf8.has Utf8.follow Utf8.sequenceBy Utf8.table Utf8.leadBits Utf8.joined Utf8.codePoint Utf8.characterAt Strings.charactersFrom Strings.run Strings.endAfter Strings.escape Strings.twoDigits Strings.escaped Strings.decodedPiece Strings.decodedFrom Strings.decodeString Strings.badDigit Strings.isBad Strings.digitOr0 Strings.hexFrom Strings.decodeHex Strings.bytesOf quiet prepend readStrings
+unfolding sign spelled constantTree parse readFile readers readLevel readPrefix readBlock readOperand readRound readStruct readComptime readElseIfs readFields readList readOn onOp onLevel readDeclarations readDeclaration readStatements readStatement readExpression begins on if bind try operatorOf lookup within isBlockLike push Numbers.nibble Numbers.digits Utf8.has Utf8.follow Utf8.sequenceBy Utf8.table Utf8.leadBits Utf8.joined Utf8.codePoint Utf8.characterAt Strings.charactersFrom Strings.run Strings.endAfter Strings.escape Strings.twoDigits Strings.escaped Strings.decodedPiece Strings.decodedFrom Strings.decodeString Strings.badDigit Strings.isBad Strings.digitOr0 Strings.hexFrom Strings.decodeHex Strings.bytesOf quiet prepend readStrings
 p8 = refl
 
 -- P9 and P10: strings that decode with a report have no tree.
 p9 : (t : Trees) → ¬ Derives file (constant (spelled Token.LooseHexStringLiteral "hex\"4g\"" ∷ [])) [] t
-unfolding sign spelled parse readFile readers readLevel readPrefix readBlock readOperand readRound readStruct readComptime readElseIfs readFields readList readOn onOp onLevel readDeclarations readDeclaration readStatements readStatement readExpression begins on if bind try operatorOf lookup within either isBlockLike push Numbers.nibble Numbers.digits Utf8.has Utf8.follow Utf8.sequenceBy Utf8.table Utf8.leadBits Utf8.joined Utf8.codePoint Utf8.characterAt Strings.charactersFrom Strings.run Strings.endAfter Strings.escape Strings.twoDigits Strings.escaped Strings.decodedPiece Strings.decodedFrom Strings.decodeString Strings.badDigit Strings.isBad Strings.digitOr0 Strings.hexFrom Strings.decodeHex Strings.bytesOf quiet prepend readStrings
+unfolding sign spelled parse readFile readers readLevel readPrefix readBlock readOperand readRound readStruct readComptime readElseIfs readFields readList readOn onOp onLevel readDeclarations readDeclaration readStatements readStatement readExpression begins on if bind try operatorOf lookup within isBlockLike push Numbers.nibble Numbers.digits Utf8.has Utf8.follow Utf8.sequenceBy Utf8.table Utf8.leadBits Utf8.joined Utf8.codePoint Utf8.characterAt Strings.charactersFrom Strings.run Strings.endAfter Strings.escape Strings.twoDigits Strings.escaped Strings.decodedPiece Strings.decodedFrom Strings.decodeString Strings.badDigit Strings.isBad Strings.digitOr0 Strings.hexFrom Strings.decodeHex Strings.bytesOf quiet prepend readStrings
 p9 = refused 9 _ refl
 
 p10 : (t : Trees) → ¬ Derives file (constant (spelled Token.LooseHexStringLiteral "hex\"4\"" ∷ [])) [] t
-unfolding sign spelled parse readFile readers readLevel readPrefix readBlock readOperand readRound readStruct readComptime readElseIfs readFields readList readOn onOp onLevel readDeclarations readDeclaration readStatements readStatement readExpression begins on if bind try operatorOf lookup within either isBlockLike push Numbers.nibble Numbers.digits Utf8.has Utf8.follow Utf8.sequenceBy Utf8.table Utf8.leadBits Utf8.joined Utf8.codePoint Utf8.characterAt Strings.charactersFrom Strings.run Strings.endAfter Strings.escape Strings.twoDigits Strings.escaped Strings.decodedPiece Strings.decodedFrom Strings.decodeString Strings.badDigit Strings.isBad Strings.digitOr0 Strings.hexFrom Strings.decodeHex Strings.bytesOf quiet prepend readStrings
+unfolding sign spelled parse readFile readers readLevel readPrefix readBlock readOperand readRound readStruct readComptime readElseIfs readFields readList readOn onOp onLevel readDeclarations readDeclaration readStatements readStatement readExpression begins on if bind try operatorOf lookup within isBlockLike push Numbers.nibble Numbers.digits Utf8.has Utf8.follow Utf8.sequenceBy Utf8.table Utf8.leadBits Utf8.joined Utf8.codePoint Utf8.characterAt Strings.charactersFrom Strings.run Strings.endAfter Strings.escape Strings.twoDigits Strings.escaped Strings.decodedPiece Strings.decodedFrom Strings.decodeString Strings.badDigit Strings.isBad Strings.digitOr0 Strings.hexFrom Strings.decodeHex Strings.bytesOf quiet prepend readStrings
 p10 = refused 9 _ refl
 
 -- `0x1_F` is the number 31.
 hexadecimal : parse 5 (constant (spelled Token.HexLiteral "0x1_F" ∷ [])) ≡ ok (constantTree (leaf Node.NumLiteral (number 31))) []
-unfolding sign spelled constantTree parse readFile readers readLevel readPrefix readBlock readOperand readRound readStruct readComptime readElseIfs readFields readList readOn onOp onLevel readDeclarations readDeclaration readStatements readStatement readExpression begins on if bind try operatorOf lookup within either isBlockLike push Numbers.nibble Numbers.digits Utf8.has Utf8.follow Utf8.sequenceBy Utf8.table Utf8.leadBits Utf8.joined Utf8.codePoint Utf8.characterAt Strings.charactersFrom Strings.run Strings.endAfter Strings.escape Strings.twoDigits Strings.escaped Strings.decodedPiece Strings.decodedFrom Strings.decodeString Strings.badDigit Strings.isBad Strings.digitOr0 Strings.hexFrom Strings.decodeHex Strings.bytesOf quiet prepend readStrings
+unfolding sign spelled constantTree parse readFile readers readLevel readPrefix readBlock readOperand readRound readStruct readComptime readElseIfs readFields readList readOn onOp onLevel readDeclarations readDeclaration readStatements readStatement readExpression begins on if bind try operatorOf lookup within isBlockLike push Numbers.nibble Numbers.digits Utf8.has Utf8.follow Utf8.sequenceBy Utf8.table Utf8.leadBits Utf8.joined Utf8.codePoint Utf8.characterAt Strings.charactersFrom Strings.run Strings.endAfter Strings.escape Strings.twoDigits Strings.escaped Strings.decodedPiece Strings.decodedFrom Strings.decodeString Strings.badDigit Strings.isBad Strings.digitOr0 Strings.hexFrom Strings.decodeHex Strings.bytesOf quiet prepend readStrings
 hexadecimal = refl
+
+-- "With 256: refusal 3": brackets need one reading more than there are of them, here two.
+abbrev brackets : List RowToken
+brackets = constant (sign Token.LeftRound ∷ token Token.Identifier (letter 7 97) ∷ sign Token.RightRound ∷ [])
+
+deep-enough : parse 2 brackets ≡ ok (constantTree (branch Node.ParenExpr 0 (named (letter 7 97)))) []
+unfolding sign constantTree parse readFile readers readLevel readPrefix readBlock readOperand readRound readStruct readComptime readElseIfs readFields readList readOn onOp onLevel readDeclarations readDeclaration readStatements readStatement readExpression begins on if bind try operatorOf lookup within isBlockLike push
+deep-enough = refl
+
+too-deep : parse 1 brackets ≡ deep
+unfolding sign parse readFile readers readLevel readPrefix readBlock readOperand readRound readStruct readComptime readElseIfs readFields readList readOn onOp onLevel readDeclarations readDeclaration readStatements readStatement readExpression begins on if bind try operatorOf lookup within isBlockLike push
+too-deep = refl
+
+-- The row of `a/**/ #`: blanks and the closed comment are left out, the error token stays; token numbers are those of all tokens.
+row-of-tokens : row (ascii "a/**/ #") (tokenWord Token.Identifier 1 ∷ tokenWord Token.BlockComment 5 ∷ tokenWord Token.Whitespace 6 ∷ tokenWord Token.InvalidCharError 7 ∷ tokenWord Token.Eof 7 ∷ [])
+    ≡ token Token.Identifier (letter 0 97) ∷ token Token.InvalidCharError (letter 3 35) ∷ []
+unfolding rowFrom isBlank Words.pack Words.high Words.low Spelling.tokenStart Spelling.covered
+row-of-tokens = refl

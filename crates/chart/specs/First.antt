@@ -99,11 +99,11 @@ brace-at (token k v ∷ xs) e = rw (go (eqb k Token.LeftCurly) e) refl
     go false e = e
 
 pub brace-stops : (xs : List RowToken) → heads (among braceStart) xs ≡ true → stop false 0 xs ≡ true
-unfolding operatorOf Chart.lookup Chart.within Chart.either below
+unfolding operatorOf Chart.lookup Chart.within below
 brace-stops xs e = stops braceStart false 0 xs refl e
 
 pub meth-stops : (xs : List RowToken) → heads (among methodsStart) xs ≡ true → stop true 0 xs ≡ true
-unfolding operatorOf Chart.lookup Chart.within Chart.either below
+unfolding operatorOf Chart.lookup Chart.within below
 meth-stops xs e = stops methodsStart true 0 xs refl e
 
 -- What follows an expression: no `else`, and no string unless the expression is a Block, If or Match.

@@ -1,6 +1,6 @@
 -- Laws of operators and of where an expression stops.
 use mathlib.Core.Path.{_≡_, refl, sym, _∙_, ap, subst}
-use mathlib.Core.Bool.{Bool, true, false, _&&_, _||_, not, true≢false, false≢true}
+use mathlib.Core.Bool.{Bool, true, false, cond, _&&_, _||_, not, true≢false, false≢true}
 use mathlib.Core.List.{List, [], _∷_}
 use Prim.Native.Nat.{ℕ, suc, _+_, _≤_, _<_}
 use native.Mathlib.Omega.{arith}
@@ -10,7 +10,7 @@ use lib.ListN.{length}
 use Rattle.words.specs.Token
 use Rattle.chart.specs.Row.{Lexeme, RowToken, begins, token}
 use Rattle.chart.specs.Tree.{Trees}
-use Rattle.chart.specs.Chart.{Operator, levels, Role, either, within, lookup, operatorOf, prefixLevel, isBinary, continues, Nonterminal, Derives, operator, notBinary, binaryOf}
+use Rattle.chart.specs.Chart.{Operator, levels, Role, within, lookup, operatorOf, prefixLevel, isBinary, continues, Nonterminal, Derives, operator, notBinary, binaryOf}
 use Rattle.chart.specs.Parser.{Outcome, on, onLevel, onOp, ok, nothing, failed, deep}
 use Rattle.chart.specs.Outcome.{Meets, if-true, if-false, not-fail, if-elim, on-elim}
 
@@ -42,15 +42,15 @@ and-right true b e = e
 and-right false b e = absurd (false≢true e)
 
 -- Every level of the table is looser than prefix operators.
-either-low : (b : Bool) (j op : ℕ) (l : Role) → ltb j prefixLevel ≡ true → below l prefixLevel ≡ true → below (either b (binaryOf j op) l) prefixLevel ≡ true
-unfolding either below
-either-low true j op l e f = e
-either-low false j op l e f = f
+cond-low : (b : Bool) (j op : ℕ) (l : Role) → ltb j prefixLevel ≡ true → below l prefixLevel ≡ true → below (cond b (binaryOf j op) l) prefixLevel ≡ true
+unfolding below
+cond-low true j op l e f = e
+cond-low false j op l e f = f
 
 within-low : (j : ℕ) (r : List Operator) (o : ℕ) (l : Role) → ltb j prefixLevel ≡ true → below l prefixLevel ≡ true → below (within j r o l) prefixLevel ≡ true
 unfolding within
 within-low j [] o l e f = f
-within-low j (operator k op ∷ r) o l e f = either-low (eqb o k) j op (within j r o l) e (within-low j r o l e f)
+within-low j (operator k op ∷ r) o l e f = cond-low (eqb o k) j op (within j r o l) e (within-low j r o l e f)
 
 lookup-low : (j : ℕ) (rs : List (List Operator)) (o : ℕ) → j + length rs ≤ prefixLevel → below (lookup j rs o) prefixLevel ≡ true
 unfolding lookup below

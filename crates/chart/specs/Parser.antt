@@ -18,7 +18,7 @@ pub data Outcome : Type 0 where
   ok : Trees → List RowToken → Outcome
   nothing failed deep : Outcome
 
--- The steps that the parser is made of.
+-- The steps that the parser is made of. `if` is `cond`, kept closed so that proofs can go step by step.
 unfoldable pub if : Bool → Outcome → Outcome → Outcome
 if true a b = a
 if false a b = b

@@ -2,7 +2,7 @@
 use mathlib.Core.Path.{_≡_, refl, sym, _∙_, ap, subst}
 use mathlib.Core.Bool.{Bool, true, false, _&&_, _||_, not, true≢false, false≢true}
 use mathlib.Core.List.{List, [], _∷_, _++_}
-use Prim.Native.Nat.{ℕ, zero, suc, _+_, _≤_, _<_}
+use Prim.Native.Nat.{ℕ, zero, suc, _+_, _≤_, _<_, pred}
 use native.Mathlib.Omega.{arith}
 use lib.Dec.{eqb, leb, le→leb}
 use lib.ListN.{length}
@@ -20,12 +20,7 @@ use Rattle.chart.specs.Outcome.{Meets, good-ok, weaken, good-trans, if-t
 use Rattle.chart.specs.Laws.{below, stop, to-true, stop-mono, stop-top, opStop, stop-intro, stop-elim, op-hit, op-miss, ended}
 use Rattle.chart.specs.First.{among, operandStart, expressionStart, armStart, statementStart, statementsStart, methodsStart, declarationStart, braceStart, nameStart, heads, apart, widen, name-at, brace-at, brace-stops, meth-stops, follows, calm, calm-fol, fol-calm, fol-else, fol-block, calm-str, calm-hstr, calms, First, least}
 
-unfoldable pub less : ℕ → ℕ
-less zero = zero
-less (suc n) = n
-
-pub back : (d : ℕ) {s : ℕ} → less d ≤ s → d ≤ suc s
-unfolding less
+pub back : (d : ℕ) {s : ℕ} → pred d ≤ s → d ≤ suc s
 back zero h = omega arith
 back (suc d) h = omega arith
 
@@ -33,7 +28,7 @@ back (suc d) h = omega arith
 pub record Reach (d : ℕ) (m : Bool) (k s : ℕ) (xs ys : List RowToken) (t : Trees) : Type 0 where
   pub fuel : ℕ
   pub room : length ys < fuel
-  pub goes : Meets (d ≤ s) (readers d .expr m k xs) (readOn (readers (less d)) fuel m k t ys)
+  pub goes : Meets (d ≤ s) (readers d .expr m k xs) (readOn (readers (pred d)) fuel m k t ys)
 
 abbrev pub Claim : Nonterminal → ℕ → List RowToken → List RowToken → Trees → Type 0
 Claim (level m k) s xs ys t = (d i : ℕ) → i ≤ k → stop m (suc k) ys ≡ true → follows t ys ≡ true → Reach d m i s xs ys t
@@ -83,24 +78,24 @@ loop-stop R (suc n) m k t ys l e = let s = stop-elim m k ys e in
 -- An expression of level `k` that goes on with nothing of that level is read whole.
 pub ends : {m : Bool} {k : ℕ} {xs ys : List RowToken} {t : Trees} (D : Read (level m k) xs ys t) → stop m k ys ≡ true → follows t ys ≡ true → (d : ℕ) → Meets (d ≤ D .size) (readers d .expr m k xs) (ok t ys)
 ends {m} {k} {xs} {ys} {t} D e fo d = let r = D .claim d k (omega arith) (stop-mono m k (suc k) ys (omega arith) e) fo in
-    good-trans (r .goes) (loop-stop (readers (less d)) (r .fuel) m k t ys (r .room) e)
+    good-trans (r .goes) (loop-stop (readers (pred d)) (r .fuel) m k t ys (r .room) e)
 
 reach-weaken : {d : ℕ} {m : Bool} {k s s′ : ℕ} {xs ys : List RowToken} {t : Trees} → s ≤ s′ → Reach d m k s xs ys t → Reach d m k s′ xs ys t
 reach-weaken h r = record { fuel = r .fuel; room = r .room; goes = weaken (λ b. omega arith) (r .goes) }
 
 -- One turn of the loop.
 turn : {d : ℕ} {m : Bool} {k s s′ : ℕ} {xs ys zs : List RowToken} {t u : Trees} → s ≤ s′ → length zs < length ys
-    → ((n : ℕ) → Meets (d ≤ s′) (readOn (readers (less d)) (suc n) m k t ys) (readOn (readers (less d)) n m k u zs)) → Reach d m k s xs ys t → Reach d m k s′ xs zs u
+    → ((n : ℕ) → Meets (d ≤ s′) (readOn (readers (pred d)) (suc n) m k t ys) (readOn (readers (pred d)) n m k u zs)) → Reach d m k s xs ys t → Reach d m k s′ xs zs u
 turn {d} {m} {k} {s} {s′} {xs} {ys} {zs} {t} {u} h l f r = go (r .fuel) (r .room) (weaken (λ b. omega arith) (r .goes))
   where
-    go : (n : ℕ) → length ys < n → Meets (d ≤ s′) (readers d .expr m k xs) (readOn (readers (less d)) n m k t ys) → Reach d m k s′ xs zs u
+    go : (n : ℕ) → length ys < n → Meets (d ≤ s′) (readers d .expr m k xs) (readOn (readers (pred d)) n m k t ys) → Reach d m k s′ xs zs u
     go zero q g = absurd (omega arith)
     go (suc n) q g = record { fuel = n; room = omega arith; goes = good-trans g (f n) }
 
 -- The loop's first turn.
 begin : {m : Bool} {s s′ : ℕ} {xs ys : List RowToken} {t : Trees} → suc s ≤ s′
     → ((d k : ℕ) → Meets (d ≤ s) (readLevel (readers d) m k xs) (readOn (readers d) (suc (length ys)) m k t ys)) → (d k : ℕ) → Reach d m k s′ xs ys t
-unfolding readers less
+unfolding readers
 begin {ys} h f zero k = record { fuel = suc (length ys); room = omega arith; goes = sunk refl (omega arith) }
 begin {ys} h f (suc d) k = record { fuel = suc (length ys); room = omega arith; goes = weaken (λ b. omega arith) (f d k) }
 
@@ -117,7 +112,7 @@ op-not o j op K e h = go (eqb o K) refl
     go false q = q
 
 op-stops : (m : Bool) (o : ℕ) (v : Lexeme) (k op : ℕ) (ys : List RowToken) → operatorOf o ≡ binaryOf k op → stop m (suc k) (token o v ∷ ys) ≡ true
-unfolding begins opStop operatorOf Chart.lookup Chart.within Chart.either below
+unfolding begins opStop operatorOf Chart.lookup Chart.within below
 op-stops m o v k op ys e = stop-intro m (suc k) (token o v ∷ ys) (op-not o k op Token.Dot e refl) (op-not o k op Token.LeftRound e refl) (go m (eqb o Token.LeftCurly) (op-not o k op Token.LeftCurly e refl))
     (subst (λ l. below l (suc k) ≡ true) (sym e) (to-true (le→leb (suc k) (suc k) (omega arith))))
   where
@@ -126,7 +121,7 @@ op-stops m o v k op ys e = stop-intro m (suc k) (token o v ∷ ys) (op-not o k o
     go false b h = refl
 
 op-fol : (t : Trees) (o : ℕ) (v : Lexeme) (k op : ℕ) (ys : List RowToken) → operatorOf o ≡ binaryOf k op → follows t (token o v ∷ ys) ≡ true
-unfolding follows operatorOf Chart.lookup Chart.within Chart.either
+unfolding follows operatorOf Chart.lookup Chart.within
 op-fol t o v k op ys e = go (eqb o Token.Else) (eqb o Token.LooseStringLiteral) (eqb o Token.LooseHexStringLiteral) (op-not o k op Token.Else e refl) (op-not o k op Token.LooseStringLiteral e refl) (op-not o k op Token.LooseHexStringLiteral e refl)
   where
     go : (a b c : Bool) → a ≡ false → b ≡ false → c ≡ false → (not a && (not (b || c) || isBlockLike t)) ≡ true
@@ -165,7 +160,7 @@ r-binary {m} {k} {o} {op} {v} {xs} {ys} {zs} {t} {u} e D E = record {
   claim = λ d i h st fo. turn (omega arith) (omega arith)
       (λ n. let p = stop-elim m (suc k) (token o v ∷ ys) (op-stops m o v k op ys e) in
       on-miss _ _ _ _ (p .dot) (on-miss _ _ _ _ (p .par) (if-false _ _ _ (p .brace)
-      (op-hit _ _ _ _ _ _ _ _ e h (bind-good _ (weaken (λ b. omega (arith, back d b)) (ends E st (calm-fol u zs (fol-calm (binaryTree op t u) zs refl fo)) (less d))) good-ok)))))
+      (op-hit _ _ _ _ _ _ _ _ e h (bind-good _ (weaken (λ b. omega (arith, back d b)) (ends E st (calm-fol u zs (fol-calm (binaryTree op t u) zs refl fo)) (pred d))) good-ok)))))
       (D .claim d i h (op-stops m o v k op ys e) (op-fol t o v k op ys e));
 }
 
@@ -224,7 +219,7 @@ r-call {ys} D E = record {
   takes = omega arith;
   size = suc (D .size + E .size);
   claim = λ d i fo. turn (omega arith) (omega arith)
-      (λ n. on-miss _ _ _ _ refl (on-hit _ _ _ _ _ (bind-good _ (weaken (λ b. omega (arith, back d b)) (E .claim (less d) (suc (length ys)) (omega arith))) good-ok))) (D .claim d i refl);
+      (λ n. on-miss _ _ _ _ refl (on-hit _ _ _ _ _ (bind-good _ (weaken (λ b. omega (arith, back d b)) (E .claim (pred d) (suc (length ys)) (omega arith))) good-ok))) (D .claim d i refl);
 }
 
 pub r-struct-literal : {v : Lexeme} {xs ys zs : List RowToken} {t us : Trees} → Read (postfix true) xs (token Token.LeftCurly v ∷ ys) t → Read fields ys zs us → Read (postfix true) xs zs (branch Node.StructLit 0 (t ⊕ us))
@@ -234,7 +229,7 @@ r-struct-literal {ys} D E = record {
   takes = omega arith;
   size = suc (D .size + E .size);
   claim = λ d i fo. turn (omega arith) (omega arith)
-      (λ n. on-miss _ _ _ _ refl (on-miss _ _ _ _ refl (if-true _ _ _ refl (on-hit _ _ _ _ _ (bind-good _ (weaken (λ b. omega (arith, back d b)) (E .claim (less d) (suc (length ys)) (omega arith))) good-ok))))) (D .claim d i refl);
+      (λ n. on-miss _ _ _ _ refl (on-miss _ _ _ _ refl (if-true _ _ _ refl (on-hit _ _ _ _ _ (bind-good _ (weaken (λ b. omega (arith, back d b)) (E .claim (pred d) (suc (length ys)) (omega arith))) good-ok))))) (D .claim d i refl);
 }
 
 pub r-standalone : {m : Bool} {xs ys : List RowToken} {t : Trees} → Read operand xs ys t → Read (postfix m) xs ys t
@@ -247,7 +242,7 @@ r-standalone {xs} {ys} D = record {
 }
 
 pub r-true-literal : {v : Lexeme} {xs : List RowToken} → Read operand (token Token.True v ∷ xs) xs (branch Node.BoolLiteral Flag.BoolLiteral-true none)
-unfolding readOperand begins heads on if follows calm stop operatorOf Chart.lookup Chart.within Chart.either below
+unfolding readOperand begins heads on if follows calm stop operatorOf Chart.lookup Chart.within below
 r-true-literal = record {
   first = refl;
   takes = omega arith;
@@ -256,7 +251,7 @@ r-true-literal = record {
 }
 
 pub r-false-literal : {v : Lexeme} {xs : List RowToken} → Read operand (token Token.False v ∷ xs) xs (branch Node.BoolLiteral 0 none)
-unfolding readOperand begins heads on if follows calm stop operatorOf Chart.lookup Chart.within Chart.either below
+unfolding readOperand begins heads on if follows calm stop operatorOf Chart.lookup Chart.within below
 r-false-literal = record {
   first = refl;
   takes = omega arith;
@@ -265,7 +260,7 @@ r-false-literal = record {
 }
 
 pub r-decimal : {v : Lexeme} {xs : List RowToken} → Read operand (token Token.DecimalLiteral v ∷ xs) xs (numeral 10 0 v)
-unfolding readOperand begins heads on if follows calm stop operatorOf Chart.lookup Chart.within Chart.either below
+unfolding readOperand begins heads on if follows calm stop operatorOf Chart.lookup Chart.within below
 r-decimal = record {
   first = refl;
   takes = omega arith;
@@ -274,7 +269,7 @@ r-decimal = record {
 }
 
 pub r-hexadecimal : {v : Lexeme} {xs : List RowToken} → Read operand (token Token.HexLiteral v ∷ xs) xs (numeral 16 2 v)
-unfolding readOperand begins heads on if follows calm stop operatorOf Chart.lookup Chart.within Chart.either below
+unfolding readOperand begins heads on if follows calm stop operatorOf Chart.lookup Chart.within below
 r-hexadecimal = record {
   first = refl;
   takes = omega arith;
@@ -283,7 +278,7 @@ r-hexadecimal = record {
 }
 
 pub r-binary-number : {v : Lexeme} {xs : List RowToken} → Read operand (token Token.BinLiteral v ∷ xs) xs (numeral 2 2 v)
-unfolding readOperand begins heads on if follows calm stop operatorOf Chart.lookup Chart.within Chart.either below
+unfolding readOperand begins heads on if follows calm stop operatorOf Chart.lookup Chart.within below
 r-binary-number = record {
   first = refl;
   takes = omega arith;
@@ -292,7 +287,7 @@ r-binary-number = record {
 }
 
 pub r-self-type : {v : Lexeme} {xs : List RowToken} → Read operand (token Token.SelfType v ∷ xs) xs (branch Node.SelfType 0 none)
-unfolding readOperand begins heads on if follows calm stop operatorOf Chart.lookup Chart.within Chart.either below
+unfolding readOperand begins heads on if follows calm stop operatorOf Chart.lookup Chart.within below
 r-self-type = record {
   first = refl;
   takes = omega arith;
@@ -301,7 +296,7 @@ r-self-type = record {
 }
 
 pub r-name : {v : Lexeme} {xs : List RowToken} → Read operand (token Token.Identifier v ∷ xs) xs (named v)
-unfolding readOperand begins heads on if follows calm stop operatorOf Chart.lookup Chart.within Chart.either below
+unfolding readOperand begins heads on if follows calm stop operatorOf Chart.lookup Chart.within below
 r-name = record {
   first = refl;
   takes = omega arith;
@@ -310,7 +305,7 @@ r-name = record {
 }
 
 pub r-builtin-name : {v : Lexeme} {xs : List RowToken} → Read operand (token Token.BuiltinName v ∷ xs) xs (builtinNamed v)
-unfolding readOperand begins heads on if follows calm stop operatorOf Chart.lookup Chart.within Chart.either below
+unfolding readOperand begins heads on if follows calm stop operatorOf Chart.lookup Chart.within below
 r-builtin-name = record {
   first = refl;
   takes = omega arith;
@@ -319,7 +314,7 @@ r-builtin-name = record {
 }
 
 pub r-string : {v : Lexeme} {xs ys : List RowToken} {bs : List ℕ} → quiet (decoded v) ≡ true → Read strings xs ys (stringTree bs) → Read operand (token Token.LooseStringLiteral v ∷ xs) ys (stringTree (bytesOf (decoded v) ++ bs))
-unfolding readOperand begins heads on if follows calm stop operatorOf Chart.lookup Chart.within Chart.either below isBlockLike branch prepend
+unfolding readOperand begins heads on if follows calm stop operatorOf Chart.lookup Chart.within below isBlockLike branch prepend
 r-string {xs} {ys} q D = record {
   first = refl;
   takes = omega arith;
@@ -328,7 +323,7 @@ r-string {xs} {ys} q D = record {
 }
 
 pub r-hex-string : {v : Lexeme} {xs ys : List RowToken} {bs : List ℕ} → quiet (decodedHex v) ≡ true → Read strings xs ys (stringTree bs) → Read operand (token Token.LooseHexStringLiteral v ∷ xs) ys (stringTree (bytesOf (decodedHex v) ++ bs))
-unfolding readOperand begins heads on if follows calm stop operatorOf Chart.lookup Chart.within Chart.either below isBlockLike branch prepend
+unfolding readOperand begins heads on if follows calm stop operatorOf Chart.lookup Chart.within below isBlockLike branch prepend
 r-hex-string {xs} {ys} q D = record {
   first = refl;
   takes = omega arith;
@@ -337,7 +332,7 @@ r-hex-string {xs} {ys} q D = record {
 }
 
 pub r-unit : {v w : Lexeme} {xs : List RowToken} → Read operand (token Token.LeftRound v ∷ token Token.RightRound w ∷ xs) xs (branch Node.TupleLit 0 none)
-unfolding readOperand begins heads on if follows calm stop operatorOf Chart.lookup Chart.within Chart.either below readRound
+unfolding readOperand begins heads on if follows calm stop operatorOf Chart.lookup Chart.within below readRound
 r-unit = record {
   first = refl;
   takes = omega arith;
@@ -346,7 +341,7 @@ r-unit = record {
 }
 
 pub r-paren : {v w : Lexeme} {xs ys : List RowToken} {t : Trees} → Read (level true 0) xs (token Token.RightRound w ∷ ys) t → Read operand (token Token.LeftRound v ∷ xs) ys (branch Node.ParenExpr 0 t)
-unfolding readRound begins heads follows calm stop operatorOf Chart.lookup Chart.within Chart.either below
+unfolding readRound begins heads follows calm stop operatorOf Chart.lookup Chart.within below
 r-paren {xs} D = record {
   first = refl;
   takes = omega arith;
@@ -355,7 +350,7 @@ r-paren {xs} D = record {
 }
 
 pub r-tuple : {v w : Lexeme} {xs ys zs : List RowToken} {t us : Trees} → Read (level true 0) xs (token Token.Comma w ∷ ys) t → Read elements ys zs us → Read operand (token Token.LeftRound v ∷ xs) zs (branch Node.TupleLit 0 (t ⊕ us))
-unfolding readRound begins heads follows calm stop operatorOf Chart.lookup Chart.within Chart.either below
+unfolding readRound begins heads follows calm stop operatorOf Chart.lookup Chart.within below
 r-tuple {xs} {ys} D E = record {
   first = refl;
   takes = omega arith;
@@ -364,7 +359,7 @@ r-tuple {xs} {ys} D E = record {
 }
 
 pub r-comptime-block : {v : Lexeme} {xs ys : List RowToken} {b : Trees} → Read block xs ys b → Read operand (token Token.Comptime v ∷ xs) ys (branch Node.ComptimeBlock 0 b)
-unfolding readOperand begins heads on if follows calm stop operatorOf Chart.lookup Chart.within Chart.either below
+unfolding readOperand begins heads on if follows calm stop operatorOf Chart.lookup Chart.within below
 r-comptime-block D = record {
   first = refl;
   takes = omega arith;
@@ -373,7 +368,7 @@ r-comptime-block D = record {
 }
 
 pub r-eager-function : {v w : Lexeme} {xs ys : List RowToken} {t : Trees} → Read signature xs ys t → Read operand (token Token.Eager v ∷ token Token.Fn w ∷ xs) ys (branch Node.FnDef Flag.FnDef-eager t)
-unfolding readOperand begins heads on if follows calm stop operatorOf Chart.lookup Chart.within Chart.either below
+unfolding readOperand begins heads on if follows calm stop operatorOf Chart.lookup Chart.within below
 r-eager-function D = record {
   first = refl;
   takes = omega arith;
@@ -382,7 +377,7 @@ r-eager-function D = record {
 }
 
 pub r-function : {v : Lexeme} {xs ys : List RowToken} {t : Trees} → Read signature xs ys t → Read operand (token Token.Fn v ∷ xs) ys (branch Node.FnDef 0 t)
-unfolding readOperand begins heads on if follows calm stop operatorOf Chart.lookup Chart.within Chart.either below
+unfolding readOperand begins heads on if follows calm stop operatorOf Chart.lookup Chart.within below
 r-function D = record {
   first = refl;
   takes = omega arith;
@@ -391,7 +386,7 @@ r-function D = record {
 }
 
 pub r-struct : {v w : Lexeme} {xs ys : List RowToken} {t : Trees} → Read structBody xs ys t → Read operand (token Token.Struct v ∷ token Token.LeftCurly w ∷ xs) ys (branch Node.StructDef 0 (branch Node.StructBody 0 t))
-unfolding readOperand begins heads on if follows calm stop operatorOf Chart.lookup Chart.within Chart.either below readStruct
+unfolding readOperand begins heads on if follows calm stop operatorOf Chart.lookup Chart.within below readStruct
 r-struct {xs} D = record {
   first = refl;
   takes = omega arith;
@@ -400,7 +395,7 @@ r-struct {xs} D = record {
 }
 
 pub r-indexed-struct : {v w : Lexeme} {xs ys zs : List RowToken} {t u : Trees} → begins Token.LeftCurly xs ≡ false → Read (level false 0) xs (token Token.LeftCurly w ∷ ys) t → Read structBody ys zs u → Read operand (token Token.Struct v ∷ xs) zs (branch Node.StructDef 0 (t ⊕ branch Node.StructBody 0 u))
-unfolding readStruct begins heads follows calm stop operatorOf Chart.lookup Chart.within Chart.either below
+unfolding readStruct begins heads follows calm stop operatorOf Chart.lookup Chart.within below
 r-indexed-struct {xs} {ys} h D E = record {
   first = refl;
   takes = omega arith;
@@ -409,7 +404,7 @@ r-indexed-struct {xs} {ys} h D E = record {
 }
 
 pub r-tuple-type : {v w : Lexeme} {xs ys : List RowToken} {t : Trees} → Read types xs ys t → Read operand (token Token.Tuple v ∷ token Token.LeftCurly w ∷ xs) ys (branch Node.TupleType 0 t)
-unfolding readOperand begins heads on if follows calm stop operatorOf Chart.lookup Chart.within Chart.either below
+unfolding readOperand begins heads on if follows calm stop operatorOf Chart.lookup Chart.within below
 r-tuple-type {xs} D = record {
   first = refl;
   takes = omega arith;
@@ -418,7 +413,7 @@ r-tuple-type {xs} D = record {
 }
 
 pub r-bare-block : {v : Lexeme} {xs ys : List RowToken} {b : Trees} → Read block (token Token.LeftCurly v ∷ xs) ys b → Read operand (token Token.LeftCurly v ∷ xs) ys (branch Node.Block 0 b)
-unfolding readOperand begins heads on if follows calm stop operatorOf Chart.lookup Chart.within Chart.either below
+unfolding readOperand begins heads on if follows calm stop operatorOf Chart.lookup Chart.within below
 r-bare-block D = record {
   first = refl;
   takes = omega arith;
@@ -427,7 +422,7 @@ r-bare-block D = record {
 }
 
 pub r-conditional : {v : Lexeme} {xs ys zs ws : List RowToken} {c b e : Trees} → Read (level false 0) xs ys c → Read block ys zs b → Read elseIfs zs ws e → Read operand (token Token.If v ∷ xs) ws (branch Node.If 0 (c ⊕ (branch Node.Block 0 b ⊕ e)))
-unfolding readOperand begins heads on if follows calm stop operatorOf Chart.lookup Chart.within Chart.either below
+unfolding readOperand begins heads on if follows calm stop operatorOf Chart.lookup Chart.within below
 r-conditional {ys} {zs} {ws} C D E = record {
   first = refl;
   takes = omega arith;
@@ -436,7 +431,7 @@ r-conditional {ys} {zs} {ws} C D E = record {
 }
 
 pub r-match : {v w : Lexeme} {xs ys zs : List RowToken} {c a : Trees} → Read (level false 0) xs (token Token.LeftCurly w ∷ ys) c → Read arms ys zs a → Read operand (token Token.Match v ∷ xs) zs (branch Node.Match 0 (c ⊕ branch Node.MatchArmList 0 a))
-unfolding readOperand begins heads on if follows calm stop operatorOf Chart.lookup Chart.within Chart.either below
+unfolding readOperand begins heads on if follows calm stop operatorOf Chart.lookup Chart.within below
 r-match {ys} D E = record {
   first = refl;
   takes = omega arith;
@@ -472,7 +467,7 @@ r-strings-more-hex q D = record {
 }
 
 pub r-arguments-end : {v : Lexeme} {xs : List RowToken} → Read arguments (token Token.RightRound v ∷ xs) xs none
-unfolding readList begins heads on if follows calm stop operatorOf Chart.lookup Chart.within Chart.either below
+unfolding readList begins heads on if follows calm stop operatorOf Chart.lookup Chart.within below
 r-arguments-end {v} {xs} = record {
   first = tt;
   takes = omega arith;
@@ -481,7 +476,7 @@ r-arguments-end {v} {xs} = record {
 }
 
 pub r-arguments-last : {v : Lexeme} {xs ys : List RowToken} {t : Trees} → Read (level true 0) xs (token Token.RightRound v ∷ ys) t → Read arguments xs ys t
-unfolding readList begins heads on if follows calm stop operatorOf Chart.lookup Chart.within Chart.either below
+unfolding readList begins heads on if follows calm stop operatorOf Chart.lookup Chart.within below
 r-arguments-last D = record {
   first = tt;
   takes = omega arith;
@@ -490,7 +485,7 @@ r-arguments-last D = record {
 }
 
 pub r-arguments-more : {v : Lexeme} {xs ys zs : List RowToken} {t us : Trees} → Read (level true 0) xs (token Token.Comma v ∷ ys) t → Read arguments ys zs us → Read arguments xs zs (t ⊕ us)
-unfolding readList begins heads on if follows calm stop operatorOf Chart.lookup Chart.within Chart.either below
+unfolding readList begins heads on if follows calm stop operatorOf Chart.lookup Chart.within below
 r-arguments-more D E = record {
   first = tt;
   takes = omega arith;
@@ -499,7 +494,7 @@ r-arguments-more D E = record {
 }
 
 pub r-types-end : {v : Lexeme} {xs : List RowToken} → Read types (token Token.RightCurly v ∷ xs) xs none
-unfolding readList begins heads on if follows calm stop operatorOf Chart.lookup Chart.within Chart.either below
+unfolding readList begins heads on if follows calm stop operatorOf Chart.lookup Chart.within below
 r-types-end {v} {xs} = record {
   first = tt;
   takes = omega arith;
@@ -508,7 +503,7 @@ r-types-end {v} {xs} = record {
 }
 
 pub r-types-last : {v : Lexeme} {xs ys : List RowToken} {t : Trees} → Read (level true 0) xs (token Token.RightCurly v ∷ ys) t → Read types xs ys t
-unfolding readList begins heads on if follows calm stop operatorOf Chart.lookup Chart.within Chart.either below
+unfolding readList begins heads on if follows calm stop operatorOf Chart.lookup Chart.within below
 r-types-last D = record {
   first = tt;
   takes = omega arith;
@@ -517,7 +512,7 @@ r-types-last D = record {
 }
 
 pub r-types-more : {v : Lexeme} {xs ys zs : List RowToken} {t us : Trees} → Read (level true 0) xs (token Token.Comma v ∷ ys) t → Read types ys zs us → Read types xs zs (t ⊕ us)
-unfolding readList begins heads on if follows calm stop operatorOf Chart.lookup Chart.within Chart.either below
+unfolding readList begins heads on if follows calm stop operatorOf Chart.lookup Chart.within below
 r-types-more D E = record {
   first = tt;
   takes = omega arith;
@@ -526,7 +521,7 @@ r-types-more D E = record {
 }
 
 pub r-elements-end : {v : Lexeme} {xs : List RowToken} → Read elements (token Token.RightRound v ∷ xs) xs none
-unfolding readElements begins heads on if follows calm stop operatorOf Chart.lookup Chart.within Chart.either below
+unfolding readElements begins heads on if follows calm stop operatorOf Chart.lookup Chart.within below
 r-elements-end = record {
   first = tt;
   takes = omega arith;
@@ -535,7 +530,7 @@ r-elements-end = record {
 }
 
 pub r-elements-last : {v : Lexeme} {xs ys : List RowToken} {t : Trees} → Read (level true 0) xs (token Token.RightRound v ∷ ys) t → Read elements xs ys t
-unfolding readElements begins heads follows calm stop operatorOf Chart.lookup Chart.within Chart.either below
+unfolding readElements begins heads follows calm stop operatorOf Chart.lookup Chart.within below
 r-elements-last {xs} D = record {
   first = tt;
   takes = omega arith;
@@ -544,7 +539,7 @@ r-elements-last {xs} D = record {
 }
 
 pub r-elements-more : {v : Lexeme} {xs ys zs : List RowToken} {t us : Trees} → Read (level true 0) xs (token Token.Comma v ∷ ys) t → Read elements ys zs us → Read elements xs zs (t ⊕ us)
-unfolding readElements begins heads follows calm stop operatorOf Chart.lookup Chart.within Chart.either below
+unfolding readElements begins heads follows calm stop operatorOf Chart.lookup Chart.within below
 r-elements-more {xs} D E = record {
   first = tt;
   takes = omega arith;
@@ -553,7 +548,7 @@ r-elements-more {xs} D E = record {
 }
 
 pub r-fields-end : {v : Lexeme} {xs : List RowToken} → Read fields (token Token.RightCurly v ∷ xs) xs none
-unfolding readFields begins heads on if follows calm stop operatorOf Chart.lookup Chart.within Chart.either below
+unfolding readFields begins heads on if follows calm stop operatorOf Chart.lookup Chart.within below
 r-fields-end = record {
   first = tt;
   takes = omega arith;
@@ -562,7 +557,7 @@ r-fields-end = record {
 }
 
 pub r-fields-last : {v w u : Lexeme} {xs ys : List RowToken} {t : Trees} → Read (level true 0) xs (token Token.RightCurly u ∷ ys) t → Read fields (token Token.Identifier v ∷ token Token.Colon w ∷ xs) ys (branch Node.FieldAssign 0 (named v ⊕ t))
-unfolding readFields begins heads on if follows calm stop operatorOf Chart.lookup Chart.within Chart.either below
+unfolding readFields begins heads on if follows calm stop operatorOf Chart.lookup Chart.within below
 r-fields-last D = record {
   first = tt;
   takes = omega arith;
@@ -571,7 +566,7 @@ r-fields-last D = record {
 }
 
 pub r-fields-more : {v w u : Lexeme} {xs ys zs : List RowToken} {t us : Trees} → Read (level true 0) xs (token Token.Comma u ∷ ys) t → Read fields ys zs us → Read fields (token Token.Identifier v ∷ token Token.Colon w ∷ xs) zs (branch Node.FieldAssign 0 (named v ⊕ t) ⊕ us)
-unfolding readFields begins heads on if follows calm stop operatorOf Chart.lookup Chart.within Chart.either below
+unfolding readFields begins heads on if follows calm stop operatorOf Chart.lookup Chart.within below
 r-fields-more D E = record {
   first = tt;
   takes = omega arith;
@@ -616,7 +611,7 @@ r-arms-end = record {
 }
 
 pub r-arms-last : {v : Lexeme} {xs ys : List RowToken} {t : Trees} → Read arm xs (token Token.RightCurly v ∷ ys) t → Read arms xs ys t
-unfolding readArms begins heads follows calm stop operatorOf Chart.lookup Chart.within Chart.either below
+unfolding readArms begins heads follows calm stop operatorOf Chart.lookup Chart.within below
 r-arms-last {xs} D = record {
   first = tt;
   takes = omega arith;
@@ -625,7 +620,7 @@ r-arms-last {xs} D = record {
 }
 
 pub r-arms-more : {v : Lexeme} {xs ys zs : List RowToken} {t us : Trees} → Read arm xs (token Token.Comma v ∷ ys) t → Read arms ys zs us → Read arms xs zs (t ⊕ us)
-unfolding readArms begins heads follows calm stop operatorOf Chart.lookup Chart.within Chart.either below
+unfolding readArms begins heads follows calm stop operatorOf Chart.lookup Chart.within below
 r-arms-more {xs} D E = record {
   first = tt;
   takes = omega arith;
@@ -652,7 +647,7 @@ r-arm-else-name {ys} D = record {
 }
 
 pub r-arm-key : {v : Lexeme} {xs ys zs : List RowToken} {t u : Trees} → Read (level true 0) xs (token Token.FatArrow v ∷ ys) t → Read (level true 0) ys zs u → Read arm xs zs (branch Node.MatchArm 0 (t ⊕ u))
-unfolding readArm begins heads follows calm stop operatorOf Chart.lookup Chart.within Chart.either below
+unfolding readArm begins heads follows calm stop operatorOf Chart.lookup Chart.within below
 r-arm-key {xs} {zs = zs} D E = record {
   first = widen expressionStart (among armStart) xs refl (D .first);
   takes = omega arith;
@@ -679,7 +674,7 @@ r-parameters-end = record {
 }
 
 pub r-parameters-last : {v : Lexeme} {xs ys : List RowToken} {t : Trees} → Read parameter xs (token Token.RightRound v ∷ ys) t → Read parameters xs ys t
-unfolding readParameters begins heads on if follows calm stop operatorOf Chart.lookup Chart.within Chart.either below
+unfolding readParameters begins heads on if follows calm stop operatorOf Chart.lookup Chart.within below
 r-parameters-last D = record {
   first = tt;
   takes = omega arith;
@@ -688,7 +683,7 @@ r-parameters-last D = record {
 }
 
 pub r-parameters-more : {v : Lexeme} {xs ys zs : List RowToken} {t us : Trees} → Read parameter xs (token Token.Comma v ∷ ys) t → Read parameters ys zs us → Read parameters xs zs (t ⊕ us)
-unfolding readParameters begins heads on if follows calm stop operatorOf Chart.lookup Chart.within Chart.either below
+unfolding readParameters begins heads on if follows calm stop operatorOf Chart.lookup Chart.within below
 r-parameters-more D E = record {
   first = tt;
   takes = omega arith;
@@ -751,7 +746,7 @@ r-struct-field-last {ys} D E = record {
 }
 
 pub r-struct-field-more : {v w u : Lexeme} {xs ys zs : List RowToken} {t us : Trees} → Read (level true 0) xs (token Token.Comma u ∷ ys) t → Read structBody ys zs us → Read structBody (token Token.Identifier v ∷ token Token.Colon w ∷ xs) zs (branch Node.FieldDef 0 (named v ⊕ t) ⊕ us)
-unfolding readStructBody begins heads on if follows calm stop operatorOf Chart.lookup Chart.within Chart.either below
+unfolding readStructBody begins heads on if follows calm stop operatorOf Chart.lookup Chart.within below
 r-struct-field-more D E = record {
   first = tt;
   takes = omega arith;
@@ -817,7 +812,7 @@ r-statements-more {xs} {ys} D E = record {
 }
 
 pub r-closing : {v : Lexeme} {xs ys : List RowToken} {t : Trees} → begins Token.Comptime xs ≡ false → Read (level true 0) xs (token Token.RightCurly v ∷ ys) t → Read statements xs ys (listed Node.StatementsList none t)
-unfolding readStatements readExpression begins heads follows calm stop operatorOf Chart.lookup Chart.within Chart.either below
+unfolding readStatements readExpression begins heads follows calm stop operatorOf Chart.lookup Chart.within below
 r-closing {xs} h D = record {
   first = widen expressionStart (among statementsStart) xs refl (D .first);
   takes = omega arith;
@@ -835,7 +830,7 @@ r-closing-comptime {xs} D = record {
 }
 
 pub r-while : {v : Lexeme} {xs ys zs : List RowToken} {c b : Trees} → Read (level false 0) xs ys c → Read block ys zs b → Read statement (token Token.While v ∷ xs) zs (branch Node.WhileStmt 0 (c ⊕ branch Node.Block 0 b))
-unfolding readStatement begins heads on if follows calm stop operatorOf Chart.lookup Chart.within Chart.either below
+unfolding readStatement begins heads on if follows calm stop operatorOf Chart.lookup Chart.within below
 r-while {ys} D E = record {
   first = refl;
   takes = omega arith;
@@ -844,7 +839,7 @@ r-while {ys} D E = record {
 }
 
 pub r-inline-while : {u v : Lexeme} {xs ys zs : List RowToken} {c b : Trees} → Read (level false 0) xs ys c → Read block ys zs b → Read statement (token Token.Inline u ∷ token Token.While v ∷ xs) zs (branch Node.InlineWhileStmt 0 (c ⊕ branch Node.Block 0 b))
-unfolding readStatement begins heads on if follows calm stop operatorOf Chart.lookup Chart.within Chart.either below
+unfolding readStatement begins heads on if follows calm stop operatorOf Chart.lookup Chart.within below
 r-inline-while {ys} D E = record {
   first = refl;
   takes = omega arith;
@@ -853,7 +848,7 @@ r-inline-while {ys} D E = record {
 }
 
 pub r-return : {v w : Lexeme} {xs ys : List RowToken} {t : Trees} → Read (level true 0) xs (token Token.Semicolon w ∷ ys) t → Read statement (token Token.Return v ∷ xs) ys (branch Node.ReturnStmt 0 t)
-unfolding readStatement begins heads on if follows calm stop operatorOf Chart.lookup Chart.within Chart.either below
+unfolding readStatement begins heads on if follows calm stop operatorOf Chart.lookup Chart.within below
 r-return D = record {
   first = refl;
   takes = omega arith;
@@ -862,7 +857,7 @@ r-return D = record {
 }
 
 pub r-comptime-semicolon : {v w : Lexeme} {xs ys : List RowToken} {b : Trees} → Read block xs (token Token.Semicolon v ∷ ys) b → Read statement (token Token.Comptime w ∷ xs) ys (branch Node.ComptimeBlock 0 b)
-unfolding readComptime begins heads follows calm stop operatorOf Chart.lookup Chart.within Chart.either below
+unfolding readComptime begins heads follows calm stop operatorOf Chart.lookup Chart.within below
 r-comptime-semicolon {xs} D = record {
   first = refl;
   takes = omega arith;
@@ -871,7 +866,7 @@ r-comptime-semicolon {xs} D = record {
 }
 
 pub r-comptime-mid : {w : Lexeme} {xs ys : List RowToken} {b : Trees} → Read block xs ys b → begins Token.RightCurly ys ≡ false → Read statement (token Token.Comptime w ∷ xs) ys (branch Node.ComptimeBlock 0 b)
-unfolding readComptime begins heads follows calm stop operatorOf Chart.lookup Chart.within Chart.either below
+unfolding readComptime begins heads follows calm stop operatorOf Chart.lookup Chart.within below
 r-comptime-mid {xs} D nr = record {
   first = refl;
   takes = omega arith;
@@ -880,7 +875,7 @@ r-comptime-mid {xs} D nr = record {
 }
 
 pub r-comptime-let : {v w : Lexeme} {xs ys : List RowToken} {t : Trees} → Read (binding true) xs ys t → Read statement (token Token.Comptime v ∷ token Token.Let w ∷ xs) ys t
-unfolding readStatement begins heads on if follows calm stop operatorOf Chart.lookup Chart.within Chart.either below readComptime
+unfolding readStatement begins heads on if follows calm stop operatorOf Chart.lookup Chart.within below readComptime
 r-comptime-let D = record {
   first = refl;
   takes = omega arith;
@@ -889,7 +884,7 @@ r-comptime-let D = record {
 }
 
 pub r-let-rule : {v : Lexeme} {xs ys : List RowToken} {t : Trees} → Read (binding false) xs ys t → Read statement (token Token.Let v ∷ xs) ys t
-unfolding readStatement begins heads on if follows calm stop operatorOf Chart.lookup Chart.within Chart.either below
+unfolding readStatement begins heads on if follows calm stop operatorOf Chart.lookup Chart.within below
 r-let-rule D = record {
   first = refl;
   takes = omega arith;
@@ -898,7 +893,7 @@ r-let-rule D = record {
 }
 
 pub r-semicolon : {v : Lexeme} {xs ys : List RowToken} {t : Trees} → begins Token.Comptime xs ≡ false → Read (level true 0) xs (token Token.Semicolon v ∷ ys) t → Read statement xs ys t
-unfolding readExpression begins heads on if follows calm stop operatorOf Chart.lookup Chart.within Chart.either below
+unfolding readExpression begins heads on if follows calm stop operatorOf Chart.lookup Chart.within below
 r-semicolon {xs} h D = record {
   first = widen expressionStart (among statementStart) xs refl (D .first);
   takes = omega arith;
@@ -907,7 +902,7 @@ r-semicolon {xs} h D = record {
 }
 
 pub r-assign : {v w : Lexeme} {xs ys zs : List RowToken} {t u : Trees} → begins Token.Comptime xs ≡ false → Read (level true 0) xs (token Token.Equals v ∷ ys) t → Read (level true 0) ys (token Token.Semicolon w ∷ zs) u → Read statement xs zs (branch Node.AssignStmt 0 (t ⊕ u))
-unfolding readExpression begins heads on if follows calm stop operatorOf Chart.lookup Chart.within Chart.either below
+unfolding readExpression begins heads on if follows calm stop operatorOf Chart.lookup Chart.within below
 r-assign {xs} h D E = record {
   first = widen expressionStart (among statementStart) xs refl (D .first);
   takes = omega arith;
@@ -943,7 +938,7 @@ r-binding-fixed {xs} D = record {
 }
 
 pub r-binding-untyped : {c m : Bool} {v w u : Lexeme} {xs ys : List RowToken} {t : Trees} → Read (level true 0) xs (token Token.Semicolon u ∷ ys) t → Read (bindingName c m) (token Token.Identifier v ∷ token Token.Equals w ∷ xs) ys (branch Node.LetStmt (letFlags c m false) (named v ⊕ t))
-unfolding readBindingName begins heads on if follows calm stop operatorOf Chart.lookup Chart.within Chart.either below
+unfolding readBindingName begins heads on if follows calm stop operatorOf Chart.lookup Chart.within below
 r-binding-untyped D = record {
   first = refl;
   takes = omega arith;
@@ -952,7 +947,7 @@ r-binding-untyped D = record {
 }
 
 pub r-binding-typed : {c m : Bool} {v w u z : Lexeme} {xs ys zs : List RowToken} {s t : Trees} → Read (level true 0) xs (token Token.Equals u ∷ ys) s → Read (level true 0) ys (token Token.Semicolon z ∷ zs) t → Read (bindingName c m) (token Token.Identifier v ∷ token Token.Colon w ∷ xs) zs (branch Node.LetStmt (letFlags c m true) (named v ⊕ (s ⊕ t)))
-unfolding readBindingName begins heads on if follows calm stop operatorOf Chart.lookup Chart.within Chart.either below
+unfolding readBindingName begins heads on if follows calm stop operatorOf Chart.lookup Chart.within below
 r-binding-typed D E = record {
   first = refl;
   takes = omega arith;
@@ -983,7 +978,7 @@ r-declarations-more D E = record {
 }
 
 pub r-init : {v : Lexeme} {xs ys : List RowToken} {b : Trees} → Read block xs ys b → Read declaration (token Token.Init v ∷ xs) ys (branch Node.InitBlock 0 b)
-unfolding readDeclaration begins heads on if follows calm stop operatorOf Chart.lookup Chart.within Chart.either below
+unfolding readDeclaration begins heads on if follows calm stop operatorOf Chart.lookup Chart.within below
 r-init D = record {
   first = refl;
   takes = omega arith;
@@ -992,7 +987,7 @@ r-init D = record {
 }
 
 pub r-run : {v : Lexeme} {xs ys : List RowToken} {b : Trees} → Read block xs ys b → Read declaration (token Token.Run v ∷ xs) ys (branch Node.RunBlock 0 b)
-unfolding readDeclaration begins heads on if follows calm stop operatorOf Chart.lookup Chart.within Chart.either below
+unfolding readDeclaration begins heads on if follows calm stop operatorOf Chart.lookup Chart.within below
 r-run D = record {
   first = refl;
   takes = omega arith;
@@ -1001,7 +996,7 @@ r-run D = record {
 }
 
 pub r-const-untyped : {u v w z : Lexeme} {xs ys : List RowToken} {t : Trees} → Read (level true 0) xs (token Token.Semicolon z ∷ ys) t → Read declaration (token Token.Const u ∷ token Token.Identifier v ∷ token Token.Equals w ∷ xs) ys (branch Node.ConstDecl 0 (named v ⊕ t))
-unfolding readDeclaration begins heads on if follows calm stop operatorOf Chart.lookup Chart.within Chart.either below
+unfolding readDeclaration begins heads on if follows calm stop operatorOf Chart.lookup Chart.within below
 r-const-untyped D = record {
   first = refl;
   takes = omega arith;
@@ -1010,7 +1005,7 @@ r-const-untyped D = record {
 }
 
 pub r-const-typed : {u v w y z : Lexeme} {xs ys zs : List RowToken} {s t : Trees} → Read (level true 0) xs (token Token.Equals y ∷ ys) s → Read (level true 0) ys (token Token.Semicolon z ∷ zs) t → Read declaration (token Token.Const u ∷ token Token.Identifier v ∷ token Token.Colon w ∷ xs) zs (branch Node.ConstDecl Flag.ConstDecl-typed (named v ⊕ (s ⊕ t)))
-unfolding readDeclaration begins heads on if follows calm stop operatorOf Chart.lookup Chart.within Chart.either below
+unfolding readDeclaration begins heads on if follows calm stop operatorOf Chart.lookup Chart.within below
 r-const-typed D E = record {
   first = refl;
   takes = omega arith;
@@ -1019,7 +1014,7 @@ r-const-typed D E = record {
 }
 
 pub r-use-private : {v : Lexeme} {xs ys : List RowToken} {t : Trees} → Read (import false) xs ys t → Read declaration (token Token.Use v ∷ xs) ys t
-unfolding readDeclaration begins heads on if follows calm stop operatorOf Chart.lookup Chart.within Chart.either below
+unfolding readDeclaration begins heads on if follows calm stop operatorOf Chart.lookup Chart.within below
 r-use-private D = record {
   first = refl;
   takes = omega arith;
@@ -1028,7 +1023,7 @@ r-use-private D = record {
 }
 
 pub r-use-public : {u v : Lexeme} {xs ys : List RowToken} {t : Trees} → Read (import true) xs ys t → Read declaration (token Token.Pub u ∷ token Token.Use v ∷ xs) ys t
-unfolding readDeclaration begins heads on if follows calm stop operatorOf Chart.lookup Chart.within Chart.either below
+unfolding readDeclaration begins heads on if follows calm stop operatorOf Chart.lookup Chart.within below
 r-use-public D = record {
   first = refl;
   takes = omega arith;
