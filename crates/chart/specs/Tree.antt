@@ -30,7 +30,7 @@ mutual
 
 infixr 40 _▸_
 -- One row of neighbours after the other.
-pub _⊕_ : Trees → Trees → Trees
+unfoldable pub _⊕_ : Trees → Trees → Trees
 none ⊕ us = us
 (t ▸ ts) ⊕ us = t ▸ (ts ⊕ us)
 
