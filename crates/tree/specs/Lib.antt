@@ -1,2 +1,3 @@
 pub mod Stored
+pub mod Grown
 pub mod Examples

@@ -38,32 +38,35 @@ where-so false a = Option.none
 unfoldable pub isName : ℕ → Bool
 isName kind = eqb kind Node.Identifier || (eqb kind Node.BuiltinName || eqb kind Node.ParamAnyType)
 
+-- The value from an offset on: its tag and count, and what follows.
+unfoldable pub valueAt : List ℕ → ℕ → ℕ → Option Value
+valueAt values tag at =
+    let n = valueCount (getD values at 0) in
+    let ws = drop (suc at) values in
+    cond (eqb tag Tag.Number)
+    (where-so (eqb (valueTag (getD values at 0)) Tag.Number && leb n (length ws)) (number (limbSum (take n ws))))
+    (where-so (eqb (valueTag (getD values at 0)) Tag.String && leb (wordsFor n) (length ws)) (bytes (take n (wordBytes ws))))
+
+-- What a node says besides its kind.
+unfoldable pub said : List ℕ → List ℕ → List ℕ → ℕ → ℕ → Option Value
+said text tokens values kind payload =
+    cond (isName kind) (where-so (ltb payload (length tokens)) (name (spelling text tokens payload)))
+    (cond (eqb kind Node.NumLiteral) (valueAt values Tag.Number payload)
+    (cond (eqb kind Node.StringLiteral) (valueAt values Tag.String payload) (Option.some (flags payload))))
+
+-- A node of its words, its children and its siblings after it, where there are all three.
+unfoldable pub joined : ℕ → Option Value → Option Trees → Option Trees → Option Trees
+joined kind (Option.some v) (Option.some children) (Option.some siblings) = Option.some (node kind v children ▸ siblings)
+joined kind (Option.some v) (Option.some children) Option.none = Option.none
+joined kind (Option.some v) Option.none siblings = Option.none
+joined kind Option.none children siblings = Option.none
+
 module _ (text tokens nodes values : List ℕ) where
-  -- The words of a value from its offset on: its tag and count, and what follows.
-  unfoldable pub valueAt : ℕ → ℕ → Option Value
-  valueAt tag at =
-      let n = valueCount (getD values at 0) in
-      let ws = drop (suc at) values in
-      cond (eqb tag Tag.Number)
-      (where-so (eqb (valueTag (getD values at 0)) Tag.Number && leb n (length ws)) (number (limbSum (take n ws))))
-      (where-so (eqb (valueTag (getD values at 0)) Tag.String && leb (wordsFor n) (length ws)) (bytes (take n (wordBytes ws))))
-
-  -- What a node says besides its kind.
-  unfoldable pub said : Words → Option Value
-  said w =
-      cond (isName (w .kind)) (where-so (ltb (w .payload) (length tokens)) (name (spelling text tokens (w .payload))))
-      (cond (eqb (w .kind) Node.NumLiteral) (valueAt Tag.Number (w .payload))
-      (cond (eqb (w .kind) Node.StringLiteral) (valueAt Tag.String (w .payload)) (Option.some (flags (w .payload)))))
-
   abbrev pub wordsAt : ℕ → Words
   wordsAt n = nodeOf (drop (nodeWidth * n) nodes)
 
-  -- A node of its words, its children and its siblings after it, where there are all three.
-  unfoldable pub joined : ℕ → Option Value → Option Trees → Option Trees → Option Trees
-  joined kind (Option.some v) (Option.some children) (Option.some siblings) = Option.some (node kind v children ▸ siblings)
-  joined kind (Option.some v) (Option.some children) Option.none = Option.none
-  joined kind (Option.some v) Option.none siblings = Option.none
-  joined kind Option.none children siblings = Option.none
+  abbrev saidBy : Words → Option Value
+  saidBy w = said text tokens values (w .kind) (w .payload)
 
   -- The node of a number, of `count` nodes, and its siblings after it; 0 is none. As many links may follow one another as `bound` says.
   unfoldable pub treesFrom : ℕ → ℕ → ℕ → Option Trees
@@ -71,7 +74,7 @@ module _ (text tokens nodes values : List ℕ) where
   treesFrom count (suc bound) n =
       let w = wordsAt n in
       cond (eqb n 0) (Option.some none)
-      (cond (ltb n count) (joined (w .kind) (said w) (treesFrom count bound (w .child)) (treesFrom count bound (w .next))) Option.none)
+      (cond (ltb n count) (joined (w .kind) (saidBy w) (treesFrom count bound (w .child)) (treesFrom count bound (w .next))) Option.none)
 
   -- The tree of `count` nodes: node 0 is File, and nothing stands beside it. No more links follow one another than there are nodes, or some node
   -- would be reached twice.
@@ -79,4 +82,4 @@ module _ (text tokens nodes values : List ℕ) where
   stored zero = Option.none
   stored (suc others) =
       let w = wordsAt 0 in
-      cond (eqb (w .next) 0) (joined (w .kind) (said w) (treesFrom (suc others) (suc others) (w .child)) (Option.some none)) Option.none
+      cond (eqb (w .next) 0) (joined (w .kind) (saidBy w) (treesFrom (suc others) (suc others) (w .child)) (Option.some none)) Option.none
