@@ -1,3 +1,4 @@
 pub mod Stored
 pub mod Grown
+pub mod Values
 pub mod Examples

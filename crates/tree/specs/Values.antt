@@ -1,0 +1,96 @@
+-- What nodes say of values: it stays so where values are added.
+use mathlib.Core.Path.{_≡_, refl, sym, _∙_, ap}
+use mathlib.Core.Bool.{Bool, true, false, cond, _&&_}
+use mathlib.Core.Option.{Option}
+use mathlib.Core.Option as Option
+use mathlib.Core.List.{List, [], _∷_, _++_}
+use Prim.Native.Nat.{ℕ, zero, suc, _+_, _*_, _/_, _%_, _≤_, _<_}
+use native.Mathlib.Omega.{arith}
+use borrow.Author.Tests.{eqb-true, leb-true, le-leb, ltb-true, ltb-false}
+use lib.Dec.{eqb, ltb, leb}
+use lib.ListN.{length, getD, take, drop, length-append, List·getD-append, List·getD-eq-default}
+use lib.Seq.{take-append-le, drop-append-le}
+use Rattle.words.specs.Node
+use Rattle.words.specs.Value as Tag
+use Rattle.words.specs.Words.{high, valueTag, valueCount}
+use Rattle.literals.specs.Spelling.{spelling}
+use Rattle.chart.specs.Tree.{Value, flags, name, number, bytes}
+use Rattle.tree.specs.Stored.{limbSum, wordBytes, wordsFor, where-so, isName, valueAt, said}
+
+-- A test that holds, where there is an answer.
+held : {A : Type 0} {b : Bool} {a v : A} → where-so b a ≡ Option.some v → (b ≡ true) × (a ≡ v)
+unfolding where-so
+held {b = true} e = (refl, cc)
+held {b = false} e = absurd (let z : _≡_ {A = ℕ} 0 1 = cc in omega arith)
+
+both : {a b : Bool} → (a && b) ≡ true → (a ≡ true) × (b ≡ true)
+both {a = true} e = (refl, e)
+both {a = false} e = absurd (let z : _≡_ {A = ℕ} 0 1 = cc in omega arith)
+
+bytes-append : (xs ys : List ℕ) → wordBytes (xs ++ ys) ≡ wordBytes xs ++ wordBytes ys
+unfolding wordBytes
+bytes-append [] ys = refl
+bytes-append (x ∷ xs) ys = ap (λ (s : List ℕ). x % 256 ∷ x / 256 % 256 ∷ x / 65536 % 256 ∷ x / 16777216 % 256 ∷ s) (bytes-append xs ys)
+
+bytes-length : (xs : List ℕ) → length (wordBytes xs) ≡ 4 * length xs
+unfolding wordBytes
+bytes-length [] = refl
+bytes-length (x ∷ xs) = let e : length (wordBytes xs) ≡ 4 * length xs = bytes-length xs in omega arith
+
+-- Past the values there is no tag.
+no-tag : (values : List ℕ) (at : ℕ) → length values ≤ at → valueTag (getD values at 0) ≡ 0
+unfolding high
+no-tag values at h = rw (List·getD-eq-default values 0 h) refl
+
+within : (values : List ℕ) (at tag : ℕ) → 0 < tag → eqb (valueTag (getD values at 0)) tag ≡ true → at < length values
+within values at tag p e = go (ltb at (length values)) refl
+  where
+    go : (b : Bool) → ltb at (length values) ≡ b → at < length values
+    go true h = ltb-true at (length values) h
+    go false h = absurd (omega (arith, no-tag values at (ltb-false at (length values) h), eqb-true (valueTag (getD values at 0)) tag e))
+
+module _ (values ws : List ℕ) (at : ℕ) (h : at < length values) where
+  head-same : getD (values ++ ws) at 0 ≡ getD values at 0
+  head-same = List·getD-append values ws 0 at h
+
+  rest-same : drop (suc at) (values ++ ws) ≡ drop (suc at) values ++ ws
+  rest-same = drop-append-le (suc at) values ws (omega arith)
+
+  fits : (n : ℕ) → leb n (length (drop (suc at) values)) ≡ true → leb n (length (drop (suc at) values ++ ws)) ≡ true
+  fits n e = le-leb n _ (omega (arith, leb-true n _ e, length-append (drop (suc at) values) ws))
+
+number-more : (values ws : List ℕ) (at : ℕ) (v : Value) → valueAt values Tag.Number at ≡ Option.some v → valueAt (values ++ ws) Tag.Number at ≡ Option.some v
+unfolding valueAt where-so
+number-more values ws at v e =
+    let (t, a) = held e in
+    let (tag, room) = both t in
+    let h : at < length values = within values at Tag.Number (omega arith) tag in
+    let n = valueCount (getD values at 0) in
+    let same : take n (drop (suc at) values ++ ws) ≡ take n (drop (suc at) values) = take-append-le n (drop (suc at) values) ws (leb-true n _ room) in
+    rw (head-same values ws at h, rest-same values ws at h, tag, fits values ws at h n room, same) (ap Option.some a)
+
+string-more : (values ws : List ℕ) (at : ℕ) (v : Value) → valueAt values Tag.String at ≡ Option.some v → valueAt (values ++ ws) Tag.String at ≡ Option.some v
+unfolding valueAt where-so
+string-more values ws at v e =
+    let (t, a) = held e in
+    let (tag, room) = both t in
+    let h : at < length values = within values at Tag.String (omega arith) tag in
+    let n = valueCount (getD values at 0) in
+    let xs = drop (suc at) values in
+    let r : wordsFor n ≤ length xs = leb-true (wordsFor n) _ room in
+    let l : length (wordBytes xs) ≡ 4 * length xs = bytes-length xs in
+    let same : take n (wordBytes xs ++ wordBytes ws) ≡ take n (wordBytes xs) = take-append-le n (wordBytes xs) (wordBytes ws) (omega arith) in
+    rw (head-same values ws at h, rest-same values ws at h, tag, fits values ws at h (wordsFor n) room, bytes-append xs ws, same) (ap Option.some a)
+
+-- What is said of values is said of more of them.
+pub says-more : (text tokens values ws : List ℕ) (k p : ℕ) (v : Value) → said text tokens values k p ≡ Option.some v → said text tokens (values ++ ws) k p ≡ Option.some v
+unfolding said
+says-more text tokens values ws k p v = go (isName k) (eqb k Node.NumLiteral) (eqb k Node.StringLiteral)
+  where
+    go : (a b c : Bool)
+        → cond a (where-so (ltb p (length tokens)) (name (spelling text tokens p))) (cond b (valueAt values Tag.Number p) (cond c (valueAt values Tag.String p) (Option.some (flags p)))) ≡ Option.some v
+        → cond a (where-so (ltb p (length tokens)) (name (spelling text tokens p))) (cond b (valueAt (values ++ ws) Tag.Number p) (cond c (valueAt (values ++ ws) Tag.String p) (Option.some (flags p)))) ≡ Option.some v
+    go true b c e = e
+    go false true c e = number-more values ws p v e
+    go false false true e = string-more values ws p v e
+    go false false false e = e
