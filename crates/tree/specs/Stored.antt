@@ -12,13 +12,8 @@ use Rattle.words.specs.Node
 use Rattle.words.specs.Value as Tag
 use Rattle.words.specs.Words.{nodeWidth, nodeOf, valueTag, valueCount}
 use Rattle.literals.specs.Spelling.{spelling}
-use Rattle.literals.specs.Numbers.{limbBase}
+use Rattle.literals.specs.Laws.{made}
 use Rattle.chart.specs.Tree.{Value, flags, name, number, bytes, Tree, Trees, node, none, _▸_}
-
--- The sum of limbs, the least first.
-unfoldable pub limbSum : List ℕ → ℕ
-limbSum [] = 0
-limbSum (w ∷ ws) = w + limbBase * limbSum ws
 
 -- "Bytes four to a word, first lowest" (01, Words that are lent).
 unfoldable pub wordBytes : List ℕ → List ℕ
@@ -44,7 +39,7 @@ valueAt values tag at =
     let n = valueCount (getD values at 0) in
     let ws = drop (suc at) values in
     cond (eqb tag Tag.Number)
-    (where-so (eqb (valueTag (getD values at 0)) Tag.Number && leb n (length ws)) (number (limbSum (take n ws))))
+    (where-so (eqb (valueTag (getD values at 0)) Tag.Number && leb n (length ws)) (number (made (take n ws))))
     (where-so (eqb (valueTag (getD values at 0)) Tag.String && leb (wordsFor n) (length ws)) (bytes (take n (wordBytes ws))))
 
 -- What a node says besides its kind.

@@ -4,18 +4,21 @@ use mathlib.Core.Bool.{Bool, true, false, cond, _&&_}
 use mathlib.Core.Option.{Option}
 use mathlib.Core.Option as Option
 use mathlib.Core.List.{List, [], _∷_, _++_}
-use Prim.Native.Nat.{ℕ, zero, suc, _+_, _*_, _/_, _%_, _≤_, _<_}
+use Prim.Native.Nat.{ℕ, zero, suc, _+_, _*_, _/_, _%_, _^_, _≤_, _<_}
 use native.Mathlib.Omega.{arith}
 use borrow.Author.Tests.{eqb-true, leb-true, le-leb, ltb-true, ltb-false}
 use lib.Dec.{eqb, ltb, leb}
 use lib.ListN.{length, getD, take, drop, length-append, List·getD-append, List·getD-eq-default}
-use lib.Seq.{take-append-le, drop-append-le}
+use lib.Seq.{take-append-le, take-length, drop-append-le, drop-append-add, getD-append-seam}
 use Rattle.words.specs.Node
 use Rattle.words.specs.Value as Tag
-use Rattle.words.specs.Words.{high, valueTag, valueCount}
+use Rattle.words.specs.Words.{high, valueHead, valueTag, valueCount}
+use Rattle.words.specs.Laws.{high-pack, low-pack}
 use Rattle.literals.specs.Spelling.{spelling}
+use Rattle.literals.specs.Numbers.{limbs, numberValue}
+use Rattle.literals.specs.Laws.{made, limbs-make}
 use Rattle.chart.specs.Tree.{Value, flags, name, number, bytes}
-use Rattle.tree.specs.Stored.{limbSum, wordBytes, wordsFor, where-so, isName, valueAt, said}
+use Rattle.tree.specs.Stored.{wordBytes, wordsFor, where-so, isName, valueAt, said}
 
 -- A test that holds, where there is an answer.
 held : {A : Type 0} {b : Bool} {a v : A} → where-so b a ≡ Option.some v → (b ≡ true) × (a ≡ v)
@@ -94,3 +97,15 @@ says-more text tokens values ws k p v = go (isName k) (eqb k Node.NumLiteral) (e
     go false true c e = number-more values ws p v e
     go false false true e = string-more values ws p v e
     go false false false e = e
+
+-- A number that was just stored is read back.
+pub number-read : (values : List ℕ) (n : ℕ) → length (limbs n) < 2 ^ 30 → valueAt (values ++ numberValue n) Tag.Number (length values) ≡ Option.some (number n)
+unfolding valueAt where-so numberValue
+number-read values n h =
+    let ls = limbs n in
+    let head : getD (values ++ (valueHead Tag.Number (length ls) ∷ ls)) (length values) 0 ≡ valueHead Tag.Number (length ls) = getD-append-seam values (valueHead Tag.Number (length ls)) ls 0 in
+    let one : length values + 1 ≡ suc (length values) = omega arith in
+    let rest : drop (suc (length values)) (values ++ (valueHead Tag.Number (length ls) ∷ ls)) ≡ ls = rw one at (drop-append-add values (valueHead Tag.Number (length ls) ∷ ls) 1) in
+    let tag : valueTag (valueHead Tag.Number (length ls)) ≡ Tag.Number = high-pack 30 Tag.Number (length ls) (omega arith) in
+    let count : valueCount (valueHead Tag.Number (length ls)) ≡ length ls = low-pack 30 Tag.Number (length ls) h in
+    rw (head, rest, tag, count, le-leb (length ls) (length ls) (omega arith), take-length ls, limbs-make n n (omega arith))
