@@ -16,6 +16,7 @@ use Rattle.words.specs.Words.{high, valueHead, valueTag, valueCount}
 use Rattle.words.specs.Laws.{high-pack, low-pack}
 use Rattle.literals.specs.Spelling.{spelling}
 use Rattle.literals.specs.Numbers.{limbs, numberValue}
+use Rattle.literals.specs.Strings.{fours, stringValue}
 use Rattle.literals.specs.Laws.{made, limbs-make}
 use Rattle.chart.specs.Tree.{Value, flags, name, number, bytes}
 use Rattle.tree.specs.Stored.{wordBytes, wordsFor, where-so, isName, valueAt, said}
@@ -109,3 +110,59 @@ number-read values n h =
     let tag : valueTag (valueHead Tag.Number (length ls)) ≡ Tag.Number = high-pack 30 Tag.Number (length ls) (omega arith) in
     let count : valueCount (valueHead Tag.Number (length ls)) ≡ length ls = low-pack 30 Tag.Number (length ls) h in
     rw (head, rest, tag, count, le-leb (length ls) (length ls) (omega arith), take-length ls, limbs-make n n (omega arith))
+
+-- All of a list are bytes.
+abbrev pub AreBytes : List ℕ → Type 0
+AreBytes [] = Unit {0}
+AreBytes (b ∷ s) = (b < 256) × AreBytes s
+
+fours-length : (s : List ℕ) → length (fours s) ≡ wordsFor (length s)
+unfolding fours
+fours-length [] = refl
+fours-length (a ∷ []) = refl
+fours-length (a ∷ b ∷ []) = refl
+fours-length (a ∷ b ∷ c ∷ []) = refl
+fours-length (a ∷ b ∷ c ∷ d ∷ s) = let e : length (fours s) ≡ wordsFor (length s) = fours-length s in omega arith
+
+-- The bytes of words that hold them four to a word.
+bytes-back : (s : List ℕ) → AreBytes s → take (length s) (wordBytes (fours s)) ≡ s
+unfolding fours wordBytes
+bytes-back [] h = refl
+bytes-back (a ∷ []) h = let x : a % 256 ≡ a = omega (arith, h .0) in rw x
+bytes-back (a ∷ b ∷ []) h =
+    let w = a + 256 * b in
+    let x : w % 256 ≡ a = omega (arith, h .0) in
+    let p : w / 256 ≡ b = omega (arith, h .0) in
+    let y : b % 256 ≡ b = omega (arith, h .1 .0) in
+    rw (x, p, y)
+bytes-back (a ∷ b ∷ c ∷ []) h =
+    let w = a + 256 * (b + 256 * c) in
+    let x : w % 256 ≡ a = omega (arith, h .0) in
+    let p : w / 256 ≡ b + 256 * c = omega (arith, h .0) in
+    let y : (b + 256 * c) % 256 ≡ b = omega (arith, h .1 .0) in
+    let q : w / 65536 ≡ c = omega (arith, h .0, h .1 .0) in
+    let z : c % 256 ≡ c = omega (arith, h .1 .1 .0) in
+    rw (x, p, y, q, z)
+bytes-back (a ∷ b ∷ c ∷ d ∷ s) h =
+    let w = a + 256 * (b + 256 * (c + 256 * d)) in
+    let x : w % 256 ≡ a = omega (arith, h .0) in
+    let p : w / 256 ≡ b + 256 * (c + 256 * d) = omega (arith, h .0) in
+    let y : (b + 256 * (c + 256 * d)) % 256 ≡ b = omega (arith, h .1 .0) in
+    let q : w / 65536 ≡ c + 256 * d = omega (arith, h .0, h .1 .0) in
+    let z : (c + 256 * d) % 256 ≡ c = omega (arith, h .1 .1 .0) in
+    let r : w / 16777216 ≡ d = omega (arith, h .0, h .1 .0, h .1 .1 .0) in
+    let u : d % 256 ≡ d = omega (arith, h .1 .1 .1 .0) in
+    rw (x, p, y, q, z, r, u) (ap (λ (t : List ℕ). a ∷ b ∷ c ∷ d ∷ t) (bytes-back s (h .1 .1 .1 .1)))
+
+-- The bytes of a string that was just stored are read back.
+pub string-read : (values s : List ℕ) → AreBytes s → length s < 2 ^ 30 → valueAt (values ++ stringValue s) Tag.String (length values) ≡ Option.some (bytes s)
+unfolding valueAt where-so stringValue
+string-read values s b h =
+    let ws = fours s in
+    let first = valueHead Tag.String (length s) in
+    let head : getD (values ++ (first ∷ ws)) (length values) 0 ≡ first = getD-append-seam values first ws 0 in
+    let one : length values + 1 ≡ suc (length values) = omega arith in
+    let rest : drop (suc (length values)) (values ++ (first ∷ ws)) ≡ ws = rw one at (drop-append-add values (first ∷ ws) 1) in
+    let tag : valueTag first ≡ Tag.String = high-pack 30 Tag.String (length s) (omega arith) in
+    let count : valueCount first ≡ length s = low-pack 30 Tag.String (length s) h in
+    rw (head, rest, tag, count, le-leb (wordsFor (length s)) (length ws) (omega (arith, fours-length s)), bytes-back s b)
