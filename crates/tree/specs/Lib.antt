@@ -1,4 +1,5 @@
 pub mod Stored
 pub mod Grown
 pub mod Values
+pub mod Holds
 pub mod Examples
