@@ -19,6 +19,20 @@ use Rattle.definition.specs.Encodes.{keep, written-length, adopted-length}
 use Rattle.chart.specs.Tree.{Value, Tree, Trees, node, none, _▸_, _⊕_}
 use Rattle.tree.specs.Stored.{said}
 
+-- How many nodes trees have.
+unfoldable mutual
+  pub size : Tree → ℕ
+  size (node k v ts) = suc (sizes ts)
+
+  pub sizes : Trees → ℕ
+  sizes none = 0
+  sizes (t ▸ ts) = size t + sizes ts
+
+pub sizes-⊕ : (a b : Trees) → sizes (a ⊕ b) ≡ sizes a + sizes b
+unfolding _⊕_ sizes
+sizes-⊕ none b = omega arith
+sizes-⊕ (t ▸ ts) b = let e : sizes (ts ⊕ b) ≡ sizes ts + sizes b = sizes-⊕ ts b in omega arith
+
 -- What the nodes of the store say, by the text, its tokens and the values so far.
 module _ (text tokens : List ℕ) where
   abbrev saysAt : List ℕ → Node → Option Value
@@ -73,9 +87,10 @@ module _ (text tokens : List ℕ) where
     pub high : n < length cur
     pub root : nodeAt cur n .own ≡ 0
     pub tree : Is cur more (Since st cur) n t
+    pub small : length st + size t ≤ length cur
 
-  -- A node that is still open: its first word, its last child and its children so far.
-  pub record Growing (st : List Node) (values : List ℕ) (cur : List Node) (more : List ℕ) (p l h : ℕ) (ts : Trees) : Type 0 where
+  -- A node that is still open: its first word, its last child and its children so far. A tree of `u` nodes that was read before waits to be linked.
+  pub record Growing (st : List Node) (values : List ℕ) (cur : List Node) (more : List ℕ) (p l h u : ℕ) (ts : Trees) : Type 0 where
     pub old : Old st cur
     pub says : Says values more
     pub low : length st ≤ p
@@ -85,11 +100,12 @@ module _ (text tokens : List ℕ) where
     pub last : l ≡ lastKid (nodeAt cur p .kids)
     pub below : l < length cur
     pub kids : Are cur more (Beside st cur p) (nodeAt cur p .kids) ts
+    pub small : length st + suc (sizes ts) + u ≤ length cur
 
   -- Another reader has run since.
-  pub ahead : {st cur now : List Node} {values more most : List ℕ} {p l h : ℕ} {ts : Trees} → length cur ≤ length now → Old cur now → Says more most
-      → Growing st values cur more p l h ts → Growing st values now most p l h ts
-  ahead {st} {cur} {now} {p = p} len o says g =
+  pub ahead : {st cur now : List Node} {values more most : List ℕ} {p l h u waits : ℕ} {ts : Trees} → length cur ≤ length now → Old cur now → Says more most → length st + suc (sizes ts) + waits ≤ length now
+      → Growing st values cur more p l h u ts → Growing st values now most p l h waits ts
+  ahead {st} {cur} {now} {p = p} len o says room g =
       let e : nodeAt now p ≡ nodeAt cur p = o p (g .high) in
       let stays : Kept cur now _ _ (Beside st cur p) (Beside st now p) = record {
         within = λ i x. (x .0, omega (arith, x .1), x .2);
@@ -107,11 +123,13 @@ module _ (text tokens : List ℕ) where
         last = g .last ∙ ap (λ (x : Node). lastKid (x .kids)) (sym e);
         below = omega (arith, g .below);
         kids = rw e (are-kept (g .kids) stays);
+        small = room;
       }
 
   -- The node is done, where its first word says something.
-  pub closed : {st cur : List Node} {values more : List ℕ} {p l h : ℕ} {ts : Trees} {v : Value} → Growing st values cur more p l h ts
+  pub closed : {st cur : List Node} {values more : List ℕ} {p l h u : ℕ} {ts : Trees} {v : Value} → Growing st values cur more p l h u ts
       → said text tokens more (nodeKind h) (nodePayload h) ≡ Option.some v → Built st values cur more p (node (nodeKind h) v ts)
+  unfolding size
   closed {st} {cur} {p = p} {ts = ts} {v = v} g e =
       record {
         old = g .old;
@@ -121,11 +139,13 @@ module _ (text tokens : List ℕ) where
         root = g .root;
         tree = is {v = v} {ts = ts} (g .low, g .high) (ap nodeKind (g .head)) (rw (g .head) e)
             (are-kept (g .kids) (record { within = λ i x. (x .0, x .1); head = λ i x. refl; kids = λ i x. refl; says = λ k q w x. x }));
+        small = omega (arith, g .small);
       }
 
   -- A node is opened.
-  pub opened : {st : List Node} {values : List ℕ} (cur : List Node) (more : List ℕ) (x : Node) → length st ≤ length cur → Old st cur → Says values more → x .kids ≡ [] → x .own ≡ 0
-      → Growing st values (cur ++ (x ∷ [])) more (length cur) 0 (x .head) none
+  pub opened : {st : List Node} {values : List ℕ} {u : ℕ} (cur : List Node) (more : List ℕ) (x : Node) → length st + u ≤ length cur → Old st cur → Says values more → x .kids ≡ [] → x .own ≡ 0
+      → Growing st values (cur ++ (x ∷ [])) more (length cur) 0 (x .head) u none
+  unfolding sizes
   opened {st} cur more x len o says k r =
       let new : nodeAt (cur ++ (x ∷ [])) (length cur) ≡ x = getD-append-seam cur x [] noNode in
       let z : length (cur ++ (x ∷ [])) ≡ length cur + 1 = length-append cur (x ∷ []) in
@@ -133,13 +153,14 @@ module _ (text tokens : List ℕ) where
       record {
         old = λ i l. List·getD-append cur (x ∷ []) noNode i (omega arith) ∙ o i l;
         says = says;
-        low = len;
+        low = omega arith;
         high = omega (arith, z);
         root = ap (λ (y : Node). y .own) new ∙ r;
         head = ap (λ (y : Node). y .head) new;
         last = sym (ap lastKid empty);
         below = omega (arith, z);
         kids = rw empty no-one;
+        small = omega (arith, z);
       }
 
   module _ (p c : ℕ) (st : List Node) where
@@ -167,11 +188,11 @@ module _ (text tokens : List ℕ) where
     node-other j q r = getD-set-other mid c j (withOwn (suc p) (nodeAt mid c)) noNode r ∙ getD-set-other st p j (withKid c (nodeAt st p)) noNode q
 
   -- A child is linked, be it older or younger than its parent: the link is sound, and the open node has one child more.
-  pub adopt : {st cur : List Node} {values more : List ℕ} {p l h c : ℕ} {t : Tree} {ts : Trees} → Growing st values cur more p l h ts → Is cur more (Beside st cur p) c t
+  pub adopt : {st cur : List Node} {values more : List ℕ} {p l h c : ℕ} {t : Tree} {ts : Trees} → Growing st values cur more p l h (size t) ts → Is cur more (Beside st cur p) c t
       → length st ≤ c → c < length cur → nodeAt cur c .own ≡ 0 → c ≢ p → l < c
-      → Growing st values (adopted p c cur) more p c h (ts ⊕ (t ▸ none)) × (mayAdopt p l c cur ≡ true)
-  unfolding mayAdopt
-  adopt {st} {cur} {p = p} {l = l} {c = c} g t hl hc ho cp lc =
+      → Growing st values (adopted p c cur) more p c h 0 (ts ⊕ (t ▸ none)) × (mayAdopt p l c cur ≡ true)
+  unfolding mayAdopt sizes
+  adopt {st} {cur} {p = p} {l = l} {c = c} {t = tree} {ts = ts} g t hl hc ho cp lc =
       let pc : p ≢ c = omega arith in
       let z : length (adopted p c cur) ≡ length cur = adopted-length p c cur in
       let stays : Kept cur (adopted p c cur) _ _ (Beside st cur p) (Beside st (adopted p c cur) p) = record {
@@ -190,15 +211,16 @@ module _ (text tokens : List ℕ) where
           last = sym (ap lastKid (kids-same p c cur (g .high)));
           below = rw z hc;
           kids = rw (kids-same p c cur (g .high)) (and (are-kept (g .kids) stays) (is-kept t stays) refl);
+          small = rw z (omega (arith, g .small, sizes-⊕ ts (tree ▸ none)));
         },
         rw (lt-ltb p (length cur) (g .high), lt-ltb c (length cur) hc, eq-eqb (nodeAt cur c .own) 0 ho, eq-eqb l (lastKid (nodeAt cur p .kids)) (g .last), lt-ltb l c lc),
       )
 
   -- A child that was just read is linked.
-  pub push : {st cur now : List Node} {values more most : List ℕ} {p l h c : ℕ} {t : Tree} {ts : Trees} → length cur ≤ length now → Growing st values cur more p l h ts → Built cur more now most c t
-      → Growing st values (adopted p c now) most p c h (ts ⊕ (t ▸ none)) × (mayAdopt p l c now ≡ true)
+  pub push : {st cur now : List Node} {values more most : List ℕ} {p l h c : ℕ} {t : Tree} {ts : Trees} → length cur ≤ length now → Growing st values cur more p l h 0 ts → Built cur more now most c t
+      → Growing st values (adopted p c now) most p c h 0 (ts ⊕ (t ▸ none)) × (mayAdopt p l c now ≡ true)
   push {st} {cur} {now} {p = p} len g b =
-      adopt (ahead len (b .old) (b .says) g)
+      adopt (ahead len (b .old) (b .says) (omega (arith, g .small, b .small)) g)
       (is-kept (b .tree) (record {
         within = λ i x. (omega (arith, g .low, g .high, x .0), x .1, omega (arith, g .high, x .0));
         head = λ i x. refl;
@@ -243,7 +265,7 @@ module _ (text tokens : List ℕ) where
   head-ended n v st i = keep (λ (x : Node). x .head) st n (withWord endWord v (nodeAt st n)) noNode refl i
 
   -- The kind of an open node is set anew.
-  pub rekinded : {st cur : List Node} {values more : List ℕ} {p l h : ℕ} {ts : Trees} (new : ℕ) → Growing st values cur more p l h ts → Growing st values (written p headWord new cur) more p l new ts
+  pub rekinded : {st cur : List Node} {values more : List ℕ} {p l h u : ℕ} {ts : Trees} (new : ℕ) → Growing st values cur more p l h u ts → Growing st values (written p headWord new cur) more p l new u ts
   rekinded {st} {cur} {p = p} new g =
       let z : length (written p headWord new cur) ≡ length cur = written-length p headWord new cur in
       let stays : Kept cur (written p headWord new cur) _ _ (Beside st cur p) (Beside st (written p headWord new cur) p) = record {
@@ -262,10 +284,11 @@ module _ (text tokens : List ℕ) where
         last = g .last ∙ sym (ap lastKid (kids-written p headWord new cur p));
         below = rw z (g .below);
         kids = rw (kids-written p headWord new cur p) (are-kept (g .kids) stays);
+        small = rw z (g .small);
       }
 
   -- Where a node ends is no part of a tree: the end of any node since may be set.
-  pub ended : {st cur : List Node} {values more : List ℕ} {p l h : ℕ} {ts : Trees} (n e : ℕ) → length st ≤ n → Growing st values cur more p l h ts → Growing st values (written n endWord e cur) more p l h ts
+  pub ended : {st cur : List Node} {values more : List ℕ} {p l h u : ℕ} {ts : Trees} (n e : ℕ) → length st ≤ n → Growing st values cur more p l h u ts → Growing st values (written n endWord e cur) more p l h u ts
   ended {st} {cur} {p = p} n e low g =
       let z : length (written n endWord e cur) ≡ length cur = written-length n endWord e cur in
       let stays : Kept cur (written n endWord e cur) _ _ (Beside st cur p) (Beside st (written n endWord e cur) p) = record {
@@ -284,4 +307,5 @@ module _ (text tokens : List ℕ) where
         last = g .last ∙ sym (ap lastKid (kids-written n endWord e cur p));
         below = rw z (g .below);
         kids = rw (kids-written n endWord e cur p) (are-kept (g .kids) stays);
+        small = rw z (g .small);
       }

@@ -16,31 +16,17 @@ use Rattle.definition.specs.Abstract.{Node, nodeAt}
 use Rattle.definition.specs.Encodes.{place, next, firstKid, Kids, nobody, kid, Plain, Encodes}
 use Rattle.chart.specs.Tree.{Value, Tree, Trees, node, none, _▸_, _⊕_}
 use Rattle.tree.specs.Stored.{where-so, said, joined, treesFrom, stored}
-use Rattle.tree.specs.Grown.{Is, Are, is, no-one, and}
+use Rattle.tree.specs.Grown.{size, sizes, sizes-⊕, Is, Are, is, no-one, and, Built}
 
 ⊕-assoc : (a b c : Trees) → (a ⊕ b) ⊕ c ≡ a ⊕ (b ⊕ c)
 unfolding _⊕_
 ⊕-assoc none b c = refl
 ⊕-assoc (t ▸ ts) b c = ap (λ (r : Trees). t ▸ r) (⊕-assoc ts b c)
 
--- How many nodes trees have.
-mutual
-  pub size : Tree → ℕ
-  size (node k v ts) = suc (sizes ts)
-
-  pub sizes : Trees → ℕ
-  sizes none = 0
-  sizes (t ▸ ts) = size t + sizes ts
-
 ⊕-none : (a : Trees) → a ⊕ none ≡ a
 unfolding _⊕_
 ⊕-none none = refl
 ⊕-none (t ▸ ts) = ap (λ (r : Trees). t ▸ r) (⊕-none ts)
-
-sizes-⊕ : (a b : Trees) → sizes (a ⊕ b) ≡ sizes a + sizes b
-unfolding _⊕_ sizes
-sizes-⊕ none b = omega arith
-sizes-⊕ (t ▸ ts) b = let e : sizes (ts ⊕ b) ≡ sizes ts + sizes b = sizes-⊕ ts b in omega arith
 
 -- Where a row of children, the last one first, begins; n stands behind it.
 start : List ℕ → ℕ → ℕ
@@ -131,3 +117,7 @@ module _ (text tokens values w : List ℕ) (st : List Node) (plain : Plain w st)
       go : (c : ℕ) → c ≡ length st → stored text tokens w values c ≡ Option.some (node k v ts ▸ none)
       go zero q = absurd (omega arith)
       go (suc c) q = rw (q, word-at 0 headWord, word-at 0 nextWord, word-at 0 childWord, enc .free 0 z own, head, s, e, down)
+
+-- So where a file was built from nothing, its words hold its tree: the bound is never met.
+pub file-held : {text tokens w values : List ℕ} {st : List Node} {t : Tree} → Plain w st → Encodes w st → Built text tokens [] [] st values 0 t → stored text tokens w values (length st) ≡ Option.some (t ▸ none)
+file-held {text} {tokens} {w} {values} {st} plain enc b = holds text tokens values w st plain enc (b .tree) (b .root) (b .high) (omega (arith, b .small))
