@@ -409,6 +409,7 @@ const OPERANDS: [u32; 6] = [
     token::TUPLE,
 ];
 
+// A node that was found.
 fn some(n: Got) -> Found
     ensures { λ r. ⌜ r ≡ found n ⌝ }
 {
@@ -606,6 +607,7 @@ fn tuple(
 
 // ---- functions
 
+// `parse_function_def`, after `fn`
 fn func(
     d: u32,
     s: Reading,
@@ -624,6 +626,7 @@ fn func(
     close_node(d, u.at, text, tokens, nodes, values, reports, u.it)
 }
 
+// `parse_method_def`
 fn meth(
     d: u32,
     s: Reading,
@@ -680,6 +683,7 @@ fn sig(
     test(d, u.at, text, tokens, nodes, values, reports, u.it)
 }
 
+// The parameters, without the brackets around them.
 fn pars(
     d: u32,
     s: Reading,
@@ -745,6 +749,7 @@ fn pars(
     Opened { it: list, at }
 }
 
+// `parse_parameter`
 fn par(
     d: u32,
     s: Reading,
@@ -797,6 +802,7 @@ fn par(
 
 // ---- structs and tuple types
 
+// `parse_struct_def`, after `struct`
 fn strct(
     d: u32,
     s: Reading,
@@ -880,6 +886,7 @@ fn idx(
     )
 }
 
+// The members of a struct, without the braces around them.
 fn inner(
     d: u32,
     s: Reading,
@@ -995,6 +1002,7 @@ fn mem(
     )
 }
 
+// `parse_struct_field`
 fn field(
     d: u32,
     s: Reading,
@@ -1030,6 +1038,7 @@ fn field(
     )
 }
 
+// `parse_tuple_type`, after `tuple`
 fn tys(
     d: u32,
     s: Reading,
@@ -1168,6 +1177,7 @@ fn elems(
 
 // ---- what goes on from an expression
 
+// A call, at its `(`.
 fn call(
     d: u32,
     s: Reading,
@@ -1218,6 +1228,7 @@ fn call(
     )
 }
 
+// A struct literal, at its `{`.
 fn lit(
     d: u32,
     s: Reading,
@@ -1258,6 +1269,7 @@ fn lit(
     )
 }
 
+// The fields of a struct literal, without the braces around them.
 fn inits(
     d: u32,
     s: Reading,
@@ -1323,6 +1335,7 @@ fn inits(
     Opened { it: list, at }
 }
 
+// A field of a struct literal.
 fn init(
     d: u32,
     s: Reading,
@@ -1388,6 +1401,7 @@ fn init(
 
 // ---- if and match
 
+// `try_parse_conditional`, after `if`
 fn cond(
     d: u32,
     s: Reading,
@@ -1440,6 +1454,7 @@ fn cond(
     )
 }
 
+// The else-if branches, and the else block where there is one.
 fn alts(
     d: u32,
     s: Reading,
@@ -1500,6 +1515,7 @@ fn alts(
     }
 }
 
+// An else-if branch, after its `if`.
 fn elif(
     d: u32,
     s: Reading,
@@ -1530,6 +1546,7 @@ fn elif(
     push_child(d, n.at, text, tokens, nodes, values, reports, list, n.it)
 }
 
+// `try_parse_match`, after `match`
 fn pick(
     d: u32,
     s: Reading,
@@ -1589,6 +1606,7 @@ fn pick(
     )
 }
 
+// The arms of a match, without the braces around them.
 fn arms(
     d: u32,
     s: Reading,
@@ -1736,6 +1754,7 @@ fn key(
 
 // ---- statements
 
+// `try_parse_stmt`
 fn stmt(
     d: u32,
     s: Reading,
@@ -1795,6 +1814,7 @@ const STATEMENTS: [u32; 5] = [
     token::LET,
 ];
 
+// A loop, after `while`.
 fn rep(
     d: u32,
     s: Reading,
@@ -1876,6 +1896,7 @@ fn ty(
     push_child(d, kind.at, text, tokens, nodes, values, reports, u, kind.it)
 }
 
+// After `return`.
 fn ret(
     d: u32,
     s: Reading,
@@ -2006,6 +2027,7 @@ fn comp(
     parts::comptime_error(d, local.at, text, tokens, nodes, values, reports, start)
 }
 
+// An assignment, after `=`.
 fn put(
     d: u32,
     s: Reading,
@@ -2086,6 +2108,7 @@ fn bare(
     }
 }
 
+// The statements of a block, without the braces around them.
 fn seq(
     d: u32,
     s: Reading,
