@@ -375,7 +375,7 @@ fn replay_all(file: &[u8]) {
     replay(file, number(file, 0));
 }
 
-pub fn replay_data() {
+pub(crate) fn replay_data() {
     let path = b"parsed";
     let fd = os::open_read(path);
     if fd < 0 {
