@@ -1,38 +1,31 @@
-//! The run over all texts.
+//! The run over all texts, and what a run counts.
 
-use crate::{
-    answer::Lexer,
-    check::{Difference, first_difference},
-    fault::lex_with_fault,
-    options::LexOptions,
-    shrink::shrink,
-};
+use crate::{check::first_difference, fault::lex_with_fault, options::LexOptions, shrink::shrink};
 use generate::{Texts, short_byte_texts, short_texts, texts_around_the_limit};
-use std::process::ExitCode;
-
-/// A line of progress is printed each time so many texts are done.
-const PROGRESS: usize = 500_000;
+use std::{fmt::Display, process::ExitCode};
 
 /// So many differing texts are kept and shown.
 const SHOWN: usize = 5;
 
 pub fn lex(options: &LexOptions) -> ExitCode {
     let lexer = if options.plant { lex_with_fault } else { oracle::lex };
-    let mut run = Run { lexer, texts: 0, differences: 0, first: Vec::new() };
+    let difference = |text: &[u8]| first_difference(text, lexer);
+    let differs = |text: &[u8]| difference(text).is_some();
+    let mut run = Run::new(500_000);
     if options.plant {
         println!("planted fault: the reference ends a line comment at \\r");
     }
-    run.all("generated", Texts::new(options.seed).take(options.texts));
-    run.all("around the limit", texts_around_the_limit());
-    run.all("short", short_texts());
-    run.all("short, of any bytes", short_byte_texts());
-    run.show_first();
-    println!("{} texts, {} differences", run.texts, run.differences);
-    if run.differences > 0 { ExitCode::FAILURE } else { ExitCode::SUCCESS }
+    run.all("generated", Texts::new(options.seed).take(options.texts), differs);
+    run.all("around the limit", texts_around_the_limit(), differs);
+    run.all("short", short_texts(), differs);
+    run.all("short, of any bytes", short_byte_texts(), differs);
+    run.show_first(difference);
+    run.end()
 }
 
-struct Run {
-    lexer: Lexer,
+pub struct Run {
+    /// A line of progress is printed each time so many texts are done.
+    progress: usize,
     texts: usize,
     differences: usize,
     /// The first few texts that differ.
@@ -40,42 +33,52 @@ struct Run {
 }
 
 impl Run {
-    fn all(&mut self, sort: &str, texts: impl Iterator<Item = Vec<u8>>) {
+    pub fn new(progress: usize) -> Self {
+        Run { progress, texts: 0, differences: 0, first: Vec::new() }
+    }
+
+    pub fn all(
+        &mut self,
+        sort: &str,
+        texts: impl Iterator<Item = Vec<u8>>,
+        mut differs: impl FnMut(&[u8]) -> bool,
+    ) {
         let before = self.texts;
         for text in texts {
-            self.one(text);
-            if self.texts.is_multiple_of(PROGRESS) {
+            self.texts += 1;
+            if differs(&text) {
+                self.keep(text);
+            }
+            if self.texts.is_multiple_of(self.progress) {
                 println!("{} texts so far, {} differences", self.texts, self.differences);
             }
         }
         println!("{sort}: {} texts", self.texts - before);
     }
 
-    fn one(&mut self, text: Vec<u8>) {
-        self.texts += 1;
-        if self.difference(&text).is_none() {
-            return;
-        }
+    fn keep(&mut self, text: Vec<u8>) {
         self.differences += 1;
         if self.first.len() < SHOWN {
             self.first.push(text);
         }
     }
 
-    fn difference(&self, text: &[u8]) -> Option<Difference> {
-        first_difference(text, self.lexer)
-    }
-
     /// Prints the first few differing texts, each made as small as it can be.
-    fn show_first(&self) {
-        let small = |text: &Vec<u8>| shrink(text, |text| self.difference(text).is_some());
+    pub fn show_first<D: Display>(&self, difference: impl Fn(&[u8]) -> Option<D>) {
+        let small = |text: &Vec<u8>| shrink(text, |text| difference(text).is_some());
         let mut texts: Vec<Vec<u8>> = self.first.iter().map(small).collect();
         texts.sort_by_key(|text| (text.len(), text.clone()));
         texts.dedup();
         for text in &texts {
-            let difference = self.difference(text).expect("shrinking keeps the difference");
+            let difference = difference(text).expect("shrinking keeps the difference");
             println!("differs: {}\n{difference}", shown(text));
         }
+    }
+
+    /// Prints the last line.
+    pub fn end(&self) -> ExitCode {
+        println!("{} texts, {} differences", self.texts, self.differences);
+        if self.differences > 0 { ExitCode::FAILURE } else { ExitCode::SUCCESS }
     }
 }
 

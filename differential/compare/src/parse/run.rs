@@ -7,16 +7,10 @@ use crate::{
         fault::Fault,
         tally::Tally,
     },
-    shrink::shrink,
+    run::Run,
 };
 use generate::{ParseTexts, long_texts, nests, short_rows, texts_around_the_limit};
 use std::{panic, process::ExitCode, thread};
-
-/// A line of progress is printed each time so many texts are done.
-const PROGRESS: usize = 100_000;
-
-/// So many differing texts are kept and shown.
-const SHOWN: usize = 5;
 
 /// Room for the deepest readings of both sides.
 const STACK_BYTES: usize = 1 << 28;
@@ -35,73 +29,31 @@ pub fn parse(options: &ParseOptions) -> ExitCode {
 }
 
 fn run_all(options: &ParseOptions) -> ExitCode {
-    let mut run = Run { fault: options.plant, ..Run::default() };
-    if let Some(fault) = options.plant {
+    let fault = options.plant;
+    let mut tally = Tally::default();
+    let mut run = Run::new(100_000);
+    if let Some(fault) = fault {
         println!("planted fault: {fault:?}");
     }
-    run.all("generated", ParseTexts::new(options.seed).take(options.texts));
-    run.all("nests", nests());
-    run.all("short rows", short_rows());
-    run.all("as long as may be", long_texts().chain(limit_texts()));
-    print!("{}", run.tally);
-    run.show_first();
-    println!("{} texts, {} differences", run.texts, run.differences);
-    if run.differences > 0 { ExitCode::FAILURE } else { ExitCode::SUCCESS }
+    let mut all = |sort: &str, texts: &mut dyn Iterator<Item = String>| {
+        let texts = texts.map(String::into_bytes);
+        run.all(sort, texts, |text| difference(text, fault, &mut tally).is_some());
+    };
+    all("generated", &mut ParseTexts::new(options.seed).take(options.texts));
+    all("nests", &mut nests());
+    all("short rows", &mut short_rows());
+    all("as long as may be", &mut long_texts().chain(limit_texts()));
+    print!("{tally}");
+    run.show_first(|text| difference(text, fault, &mut Tally::default()));
+    run.end()
+}
+
+fn difference(text: &[u8], fault: Option<Fault>, tally: &mut Tally) -> Option<Difference> {
+    first_difference(str::from_utf8(text).ok()?, fault, tally)
 }
 
 /// Those around the limit that can be parsed.
 fn limit_texts() -> impl Iterator<Item = String> {
     let short = texts_around_the_limit().filter(|text| text.len() <= 65_536);
     short.filter_map(|text| String::from_utf8(text).ok())
-}
-
-#[derive(Default)]
-struct Run {
-    fault: Option<Fault>,
-    tally: Tally,
-    texts: usize,
-    differences: usize,
-    /// The first few texts that differ.
-    first: Vec<String>,
-}
-
-impl Run {
-    fn all(&mut self, sort: &str, texts: impl Iterator<Item = String>) {
-        let before = self.texts;
-        for text in texts {
-            self.one(text);
-            if self.texts.is_multiple_of(PROGRESS) {
-                println!("{} texts so far, {} differences", self.texts, self.differences);
-            }
-        }
-        println!("{sort}: {} texts", self.texts - before);
-    }
-
-    fn one(&mut self, text: String) {
-        self.texts += 1;
-        if first_difference(&text, self.fault, &mut self.tally).is_none() {
-            return;
-        }
-        self.differences += 1;
-        if self.first.len() < SHOWN {
-            self.first.push(text);
-        }
-    }
-
-    fn difference(&self, text: &[u8]) -> Option<Difference> {
-        let text = str::from_utf8(text).ok()?;
-        first_difference(text, self.fault, &mut Tally::default())
-    }
-
-    /// Prints the first few differing texts, each made as small as it can be.
-    fn show_first(&self) {
-        let small = |text: &String| shrink(text.as_bytes(), |text| self.difference(text).is_some());
-        let mut texts: Vec<Vec<u8>> = self.first.iter().map(small).collect();
-        texts.sort_by_key(|text| (text.len(), text.clone()));
-        texts.dedup();
-        for text in &texts {
-            let difference = self.difference(text).expect("shrinking keeps the difference");
-            println!("differs: {}\n{difference}", crate::run::shown(text));
-        }
-    }
 }
