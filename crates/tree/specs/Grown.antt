@@ -87,9 +87,9 @@ module _ (text tokens : List ℕ) where
     pub high : n < length cur
     pub root : nodeAt cur n .own ≡ 0
     pub tree : Is cur more (Since st cur) n t
-    pub small : length st + size t ≤ length cur
+    pub size-is : length st + size t ≡ length cur
 
-  -- A node that is still open: its first word, its last child and its children so far. A tree of `u` nodes that was read before waits to be linked.
+  -- A node that is still open: its first word, its last child and its children so far. Trees of `u` nodes that were read before wait to be linked.
   pub record Growing (st : List Node) (values : List ℕ) (cur : List Node) (more : List ℕ) (p l h u : ℕ) (ts : Trees) : Type 0 where
     pub old : Old st cur
     pub says : Says values more
@@ -100,10 +100,10 @@ module _ (text tokens : List ℕ) where
     pub last : l ≡ lastKid (nodeAt cur p .kids)
     pub below : l < length cur
     pub kids : Are cur more (Beside st cur p) (nodeAt cur p .kids) ts
-    pub small : length st + suc (sizes ts) + u ≤ length cur
+    pub size-is : length st + suc (sizes ts) + u ≡ length cur
 
   -- Another reader has run since.
-  pub ahead : {st cur now : List Node} {values more most : List ℕ} {p l h u waits : ℕ} {ts : Trees} → length cur ≤ length now → Old cur now → Says more most → length st + suc (sizes ts) + waits ≤ length now
+  pub ahead : {st cur now : List Node} {values more most : List ℕ} {p l h u waits : ℕ} {ts : Trees} → length cur ≤ length now → Old cur now → Says more most → length st + suc (sizes ts) + waits ≡ length now
       → Growing st values cur more p l h u ts → Growing st values now most p l h waits ts
   ahead {st} {cur} {now} {p = p} len o says room g =
       let e : nodeAt now p ≡ nodeAt cur p = o p (g .high) in
@@ -123,11 +123,11 @@ module _ (text tokens : List ℕ) where
         last = g .last ∙ ap (λ (x : Node). lastKid (x .kids)) (sym e);
         below = omega (arith, g .below);
         kids = rw e (are-kept (g .kids) stays);
-        small = room;
+        size-is = room;
       }
 
   -- The node is done, where its first word says something.
-  pub closed : {st cur : List Node} {values more : List ℕ} {p l h u : ℕ} {ts : Trees} {v : Value} → Growing st values cur more p l h u ts
+  pub closed : {st cur : List Node} {values more : List ℕ} {p l h : ℕ} {ts : Trees} {v : Value} → Growing st values cur more p l h 0 ts
       → said text tokens more (nodeKind h) (nodePayload h) ≡ Option.some v → Built st values cur more p (node (nodeKind h) v ts)
   unfolding size
   closed {st} {cur} {p = p} {ts = ts} {v = v} g e =
@@ -139,11 +139,11 @@ module _ (text tokens : List ℕ) where
         root = g .root;
         tree = is {v = v} {ts = ts} (g .low, g .high) (ap nodeKind (g .head)) (rw (g .head) e)
             (are-kept (g .kids) (record { within = λ i x. (x .0, x .1); head = λ i x. refl; kids = λ i x. refl; says = λ k q w x. x }));
-        small = omega (arith, g .small);
+        size-is = omega (arith, g .size-is);
       }
 
   -- A node is opened.
-  pub opened : {st : List Node} {values : List ℕ} {u : ℕ} (cur : List Node) (more : List ℕ) (x : Node) → length st + u ≤ length cur → Old st cur → Says values more → x .kids ≡ [] → x .own ≡ 0
+  pub opened : {st : List Node} {values : List ℕ} {u : ℕ} (cur : List Node) (more : List ℕ) (x : Node) → length st + u ≡ length cur → Old st cur → Says values more → x .kids ≡ [] → x .own ≡ 0
       → Growing st values (cur ++ (x ∷ [])) more (length cur) 0 (x .head) u none
   unfolding sizes
   opened {st} cur more x len o says k r =
@@ -160,7 +160,7 @@ module _ (text tokens : List ℕ) where
         last = sym (ap lastKid empty);
         below = omega (arith, z);
         kids = rw empty no-one;
-        small = omega (arith, z);
+        size-is = omega (arith, z);
       }
 
   module _ (p c : ℕ) (st : List Node) where
@@ -187,50 +187,91 @@ module _ (text tokens : List ℕ) where
     unfolding adopted mid
     node-other j q r = getD-set-other mid c j (withOwn (suc p) (nodeAt mid c)) noNode r ∙ getD-set-other st p j (withKid c (nodeAt st p)) noNode q
 
-  -- A child is linked, be it older or younger than its parent: the link is sound, and the open node has one child more.
-  pub adopt : {st cur : List Node} {values more : List ℕ} {p l h c : ℕ} {t : Tree} {ts : Trees} → Growing st values cur more p l h (size t) ts → Is cur more (Beside st cur p) c t
-      → length st ≤ c → c < length cur → nodeAt cur c .own ≡ 0 → c ≢ p → l < c
-      → Growing st values (adopted p c cur) more p c h 0 (ts ⊕ (t ▸ none)) × (mayAdopt p l c cur ≡ true)
-  unfolding mayAdopt sizes
-  adopt {st} {cur} {p = p} {l = l} {c = c} {t = tree} {ts = ts} g t hl hc ho cp lc =
-      let pc : p ≢ c = omega arith in
-      let z : length (adopted p c cur) ≡ length cur = adopted-length p c cur in
-      let stays : Kept cur (adopted p c cur) _ _ (Beside st cur p) (Beside st (adopted p c cur) p) = record {
-        within = λ i x. (x .0, rw z (x .1), x .2);
+  -- A tree that was read before or after the node p was opened, and waits to be linked to it.
+  pub record Waiting (st cur : List Node) (more : List ℕ) (p c : ℕ) (t : Tree) : Type 0 where
+    pub low : length st ≤ c
+    pub high : c < length cur
+    pub root : nodeAt cur c .own ≡ 0
+    pub apart : c ≢ p
+    pub tree : Is cur more (Beside st cur p) c t
+
+  -- What was built waits, for a node that was opened since.
+  pub waits : {base st cur now : List Node} {values more most : List ℕ} {p c : ℕ} {t : Tree} → length base ≤ length st → Built st values cur more c t → length cur ≤ length now → Old cur now → Says more most → length cur ≤ p
+      → Waiting base now most p c t
+  waits {base} {st} {cur} {now} {p = p} {c = c} l b len o says q =
+      record {
+        low = omega (arith, b .low);
+        high = omega (arith, b .high);
+        root = ap (λ (x : Node). x .own) (o c (b .high)) ∙ b .root;
+        apart = omega (arith, b .high);
+        tree = is-kept (b .tree) (record {
+          within = λ i x. (omega (arith, x .0), omega (arith, x .1), omega (arith, x .1));
+          head = λ i x. ap (λ (y : Node). y .head) (o i (x .1));
+          kids = λ i x. ap (λ (y : Node). y .kids) (o i (x .1));
+          says = says;
+        });
+      }
+
+  -- Linking leaves alone what is beside the parent.
+  beside-kept : (st cur : List Node) (more : List ℕ) (p c : ℕ) → Kept cur (adopted p c cur) more more (Beside st cur p) (Beside st (adopted p c cur) p)
+  beside-kept st cur more p c =
+      record {
+        within = λ i x. (x .0, rw (adopted-length p c cur) (x .1), x .2);
         head = λ i x. head-kept p c cur i;
         kids = λ i x. kids-other p c cur i (x .2);
         says = λ k q v x. x;
-      } in (
+      }
+
+  -- Where one is linked, another waits on.
+  pub waits-on : {st cur : List Node} {more : List ℕ} {p d : ℕ} {t : Tree} (c : ℕ) → d ≢ c → Waiting st cur more p d t → Waiting st (adopted p c cur) more p d t
+  waits-on {st} {cur} {more} {p} {d} c q w =
+      record {
+        low = w .low;
+        high = rw (adopted-length p c cur) (w .high);
+        root = own-other p c cur d q ∙ w .root;
+        apart = w .apart;
+        tree = is-kept (w .tree) (beside-kept st cur more p c);
+      }
+
+  -- A child is linked, be it older or younger than its parent: the link is sound, and the open node has one child more.
+  pub adopt : {st cur : List Node} {values more : List ℕ} {p l h c u : ℕ} {t : Tree} {ts : Trees} → Growing st values cur more p l h (size t + u) ts → Waiting st cur more p c t → l < c
+      → Growing st values (adopted p c cur) more p c h u (ts ⊕ (t ▸ none)) × (mayAdopt p l c cur ≡ true)
+  unfolding mayAdopt sizes
+  adopt {st} {cur} {more = more} {p = p} {l = l} {c = c} {t = tree} {ts = ts} g w lc =
+      let pc : p ≢ c = omega (arith, w .apart) in
+      let z : length (adopted p c cur) ≡ length cur = adopted-length p c cur in (
         record {
-          old = λ i x. node-other p c cur i (omega (arith, g .low)) (omega arith) ∙ g .old i x;
+          old = λ i x. node-other p c cur i (omega (arith, g .low)) (omega (arith, w .low)) ∙ g .old i x;
           says = g .says;
           low = g .low;
           high = rw z (g .high);
           root = own-other p c cur p pc ∙ g .root;
           head = head-kept p c cur p ∙ g .head;
           last = sym (ap lastKid (kids-same p c cur (g .high)));
-          below = rw z hc;
-          kids = rw (kids-same p c cur (g .high)) (and (are-kept (g .kids) stays) (is-kept t stays) refl);
-          small = rw z (omega (arith, g .small, sizes-⊕ ts (tree ▸ none)));
+          below = rw z (w .high);
+          kids = rw (kids-same p c cur (g .high)) (and (are-kept (g .kids) (beside-kept st cur more p c)) (is-kept (w .tree) (beside-kept st cur more p c)) refl);
+          size-is = rw z (omega (arith, g .size-is, sizes-⊕ ts (tree ▸ none)));
         },
-        rw (lt-ltb p (length cur) (g .high), lt-ltb c (length cur) hc, eq-eqb (nodeAt cur c .own) 0 ho, eq-eqb l (lastKid (nodeAt cur p .kids)) (g .last), lt-ltb l c lc),
+        rw (lt-ltb p (length cur) (g .high), lt-ltb c (length cur) (w .high), eq-eqb (nodeAt cur c .own) 0 (w .root), eq-eqb l (lastKid (nodeAt cur p .kids)) (g .last), lt-ltb l c lc),
       )
 
   -- A child that was just read is linked.
-  pub push : {st cur now : List Node} {values more most : List ℕ} {p l h c : ℕ} {t : Tree} {ts : Trees} → length cur ≤ length now → Growing st values cur more p l h 0 ts → Built cur more now most c t
+  pub push : {st cur now : List Node} {values more most : List ℕ} {p l h c : ℕ} {t : Tree} {ts : Trees} → Growing st values cur more p l h 0 ts → Built cur more now most c t
       → Growing st values (adopted p c now) most p c h 0 (ts ⊕ (t ▸ none)) × (mayAdopt p l c now ≡ true)
-  push {st} {cur} {now} {p = p} len g b =
-      adopt (ahead len (b .old) (b .says) (omega (arith, g .small, b .small)) g)
-      (is-kept (b .tree) (record {
-        within = λ i x. (omega (arith, g .low, g .high, x .0), x .1, omega (arith, g .high, x .0));
-        head = λ i x. refl;
-        kids = λ i x. refl;
-        says = λ k q v x. x;
-      }))
-      (omega (arith, g .low, g .high, b .low))
-      (b .high)
-      (b .root)
-      (omega (arith, g .high, b .low))
+  push {st} {cur} {now} {p = p} {t = t} g b =
+      adopt {u = 0} (ahead (omega (arith, b .size-is)) (b .old) (b .says) (omega (arith, g .size-is, b .size-is)) g)
+      (record {
+        low = omega (arith, g .low, g .high, b .low);
+        high = b .high;
+        root = b .root;
+        apart = omega (arith, g .high, b .low);
+        tree = is-kept (b .tree) (record {
+          within = λ i x. (omega (arith, g .low, g .high, x .0), x .1, omega (arith, g .high, x .0));
+          head = λ i x. refl;
+          kids = λ i x. refl;
+          says = λ k q v x. x;
+        });
+      })
       (omega (arith, g .below, b .low))
 
   word-kids : (j v : ℕ) (n : Node) → withWord j v n .kids ≡ n .kids
@@ -284,7 +325,7 @@ module _ (text tokens : List ℕ) where
         last = g .last ∙ sym (ap lastKid (kids-written p headWord new cur p));
         below = rw z (g .below);
         kids = rw (kids-written p headWord new cur p) (are-kept (g .kids) stays);
-        small = rw z (g .small);
+        size-is = rw z (g .size-is);
       }
 
   -- Where a node ends is no part of a tree: the end of any node since may be set.
@@ -307,5 +348,5 @@ module _ (text tokens : List ℕ) where
         last = g .last ∙ sym (ap lastKid (kids-written n endWord e cur p));
         below = rw z (g .below);
         kids = rw (kids-written n endWord e cur p) (are-kept (g .kids) stays);
-        small = rw z (g .small);
+        size-is = rw z (g .size-is);
       }

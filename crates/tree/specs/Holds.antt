@@ -120,4 +120,4 @@ module _ (text tokens values w : List ℕ) (st : List Node) (plain : Plain w st)
 
 -- So where a file was built from nothing, its words hold its tree: the bound is never met.
 pub file-held : {text tokens w values : List ℕ} {st : List Node} {t : Tree} → Plain w st → Encodes w st → Built text tokens [] [] st values 0 t → stored text tokens w values (length st) ≡ Option.some (t ▸ none)
-file-held {text} {tokens} {w} {values} {st} plain enc b = holds text tokens values w st plain enc (b .tree) (b .root) (b .high) (omega (arith, b .small))
+file-held {text} {tokens} {w} {values} {st} plain enc b = holds text tokens values w st plain enc (b .tree) (b .root) (b .high) (omega (arith, b .size-is))

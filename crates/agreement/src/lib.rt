@@ -1,0 +1,1 @@
+// That the definition's parser and the grammar agree: laws, no code that runs.
