@@ -1,2 +1,4 @@
 pub mod Run
 pub mod Sim
+pub mod Steps
+pub mod Statements

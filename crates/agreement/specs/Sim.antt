@@ -38,25 +38,40 @@ then k c (gives (made {a} {u} {ts} {ys} q)) h = h a u ts ys q
 then k c fails h = fails
 then k c sinks h = sinks
 
+-- The text, its tokens and where they end; how many turns a loop may take; the readers one level deeper, of the abstract run and of rows.
+pub record Setting : Type 0 where
+  pub text : List ℕ
+  pub tokens : List ℕ
+  pub end : ℕ
+  pub bound : ℕ
+  pub readers : ReadersA
+  pub rows : Chart.Readers
+
+abbrev pub runs : (s : Setting) {A B : Type 0} → Prog A → World → (A → World → Fate B) → Fate B
+runs s p w k = run (s .text) (s .tokens) (s .end) (s .bound) (s .readers) p w k
+
+abbrev pub lexemeOf : Setting → ℕ → Lexeme
+lexemeOf s i = lexeme (s .text) (s .tokens) i
+
 -- How many words values may take that are made of tokens: one, and one for each byte.
 unfoldable pub cost : List RowToken → ℕ
 cost [] = 0
 cost (token k v ∷ xs) = suc (length (v .spelling)) + cost xs
 
-module _ (text tokens : List ℕ) (end bound : ℕ) where
+module _ (s : Setting) where
   -- What is ahead of the abstract run, as the chart has it: tokens that are read, then Eof or nothing.
   pub data Ahead : List Seen → List RowToken → Type 0 where
     over : Ahead [] []
     eof-ahead : {i : ℕ} → Ahead (good i Token.Eof ∷ []) []
-    next : {i k : ℕ} {row : List Seen} {xs : List RowToken} → i < length tokens → tokenKind (wordAt tokens i) ≡ k → eqb k Token.Eof ≡ false → Ahead row xs
-        → Ahead (good i k ∷ row) (token k (lexeme text tokens i) ∷ xs)
+    next : {i k : ℕ} {row : List Seen} {xs : List RowToken} → i < length (s .tokens) → tokenKind (wordAt (s .tokens) i) ≡ k → eqb k Token.Eof ≡ false → Ahead row xs
+        → Ahead (good i k ∷ row) (token k (lexemeOf s i) ∷ xs)
 
   -- Where a program begins: the row that is ahead; payloads have room for offsets of values, and loops for the tokens; File is there, and
   -- each link so far was sound.
   pub record Fit (store : List Node) (values : List ℕ) (row : List Seen) (sane : Bool) (xs : List RowToken) : Type 0 where
     pub ahead : Ahead row xs
     pub room : length values + cost xs < 2 ^ 26
-    pub few : length xs < bound
+    pub few : length xs < s .bound
     pub born : 0 < length store
     pub sound : sane ≡ true
 
@@ -65,9 +80,9 @@ module _ (text tokens : List ℕ) (end bound : ℕ) where
 
   -- A token of kind K was passed, and `ys` is ahead.
   pub record Taken (K : ℕ) (w : World) (xs : List RowToken) (j : ℕ) (row : List Seen) (ys : List RowToken) : Type 0 where
-    pub inside : j < length tokens
-    pub kind : tokenKind (wordAt tokens j) ≡ K
-    pub first : xs ≡ token K (lexeme text tokens j) ∷ ys
+    pub inside : j < length (s .tokens)
+    pub kind : tokenKind (wordAt (s .tokens) j) ≡ K
+    pub first : xs ≡ token K (lexemeOf s j) ∷ ys
     pub fit : Fit (w .store) (w .values) row (w .sane) ys
 
   -- What is ahead once a token is passed.
@@ -75,27 +90,27 @@ module _ (text tokens : List ℕ) (end bound : ℕ) where
   unfolding cost
   passed-fit w f e a = let g = rw e at f in record { ahead = a; room = omega (arith, g .room); few = omega (arith, g .few); born = f .born; sound = f .sound }
 
-  module _ (r : ReadersA) {B : Type 0} {P : B → World → Outcome → Type 0} where
+  module _ {B : Type 0} {P : B → World → Outcome → Type 0} where
     -- Trivia is gone from the row: the run stands at its first token, or at the end.
     peek-at : (w : World) (k : ℕ → World → Fate B) {row : List Seen} {xs : List RowToken} {o : Outcome} → w .row ≡ row → Ahead row xs
         → ((i : ℕ) → xs ≡ [] → Sim P (k Token.Eof (moveTo i (w .row) w)) o)
-        → ((j kind : ℕ) (ys : List RowToken) → xs ≡ token kind (lexeme text tokens j) ∷ ys → eqb kind Token.Eof ≡ false → Sim P (k kind (moveTo j (w .row) w)) o)
-        → Sim P (run text tokens end bound r peek w k) o
+        → ((j kind : ℕ) (ys : List RowToken) → xs ≡ token kind (lexemeOf s j) ∷ ys → eqb kind Token.Eof ≡ false → Sim P (k kind (moveTo j (w .row) w)) o)
+        → Sim P (runs s peek w k) o
     unfolding run skipA kindA
-    peek-at w k e over h g = rw e (rw e at (h end refl))
+    peek-at w k e over h g = rw e (rw e at (h (s .end) refl))
     peek-at w k e (eof-ahead {i}) h g = rw e (rw e at (h i refl))
     peek-at w k e (next {i} {k = kind} {xs = ys} l t n a) h g = rw e (rw e at (g i kind ys refl n))
 
     pub peek-rule : (w : World) (k : ℕ → World → Fate B) {xs : List RowToken} {o : Outcome} → Fits w xs
         → ((i : ℕ) → xs ≡ [] → Sim P (k Token.Eof (moveTo i (w .row) w)) o)
-        → ((j kind : ℕ) (ys : List RowToken) → xs ≡ token kind (lexeme text tokens j) ∷ ys → eqb kind Token.Eof ≡ false → Sim P (k kind (moveTo j (w .row) w)) o)
-        → Sim P (run text tokens end bound r peek w k) o
+        → ((j kind : ℕ) (ys : List RowToken) → xs ≡ token kind (lexemeOf s j) ∷ ys → eqb kind Token.Eof ≡ false → Sim P (k kind (moveTo j (w .row) w)) o)
+        → Sim P (runs s peek w k) o
     peek-rule w k f h g = peek-at w k refl (f .ahead) h g
 
     -- The first token is passed.
     pass-at : (w : World) (k : Unit {0} → World → Fate B) {row : List Seen} {zs ys : List RowToken} {K : ℕ} {v : Lexeme} {o : Outcome} → w .row ≡ row → Ahead row zs → zs ≡ token K v ∷ ys
-        → ((j : ℕ) (rest : List Seen) → j < length tokens → tokenKind (wordAt tokens j) ≡ K → v ≡ lexeme text tokens j → Ahead rest ys → Sim P (k tt (moveTo (suc j) rest w)) o)
-        → Sim P (run text tokens end bound r pass w k) o
+        → ((j : ℕ) (rest : List Seen) → j < length (s .tokens) → tokenKind (wordAt (s .tokens) j) ≡ K → v ≡ lexemeOf s j → Ahead rest ys → Sim P (k tt (moveTo (suc j) rest w)) o)
+        → Sim P (runs s pass w k) o
     unfolding run skipA passA
     pass-at w k e over q h = absurd (let z : _≡_ {A = ℕ} 0 1 = cc in omega arith)
     pass-at w k e eof-ahead q h = absurd (let z : _≡_ {A = ℕ} 0 1 = cc in omega arith)
@@ -103,65 +118,65 @@ module _ (text tokens : List ℕ) (end bound : ℕ) where
         let z : xs ≡ ys = cc in
         let a′ : Ahead rest ys = rw z at a in
         let t′ : kind ≡ K = cc in
-        let v′ : v ≡ lexeme text tokens i = cc in
+        let v′ : v ≡ lexemeOf s i = cc in
         rw e (h i rest l (t ∙ t′) v′ a′)
 
     pub pass-rule : (w : World) (k : Unit {0} → World → Fate B) {xs ys : List RowToken} {K : ℕ} {v : Lexeme} {o : Outcome} → Fits w xs → xs ≡ token K v ∷ ys
-        → ((j : ℕ) (row : List Seen) → v ≡ lexeme text tokens j → Taken K w xs j row ys → Sim P (k tt (moveTo (suc j) row w)) o)
-        → Sim P (run text tokens end bound r pass w k) o
+        → ((j : ℕ) (row : List Seen) → v ≡ lexemeOf s j → Taken K w xs j row ys → Sim P (k tt (moveTo (suc j) row w)) o)
+        → Sim P (runs s pass w k) o
     pass-rule w k {xs} {ys} {K} {v} f e h =
         pass-at w k refl (f .ahead) e (λ j row l t q a. h j row q (record { inside = l; kind = t; first = rw (← q) e; fit = passed-fit w f e a }))
 
     -- `eat` beside what the chart does on a token.
     pub eat-rule : (w : World) (k : Bool → World → Fate B) {K : ℕ} {xs : List RowToken} (h : Lexeme → List RowToken → Outcome) {m : Outcome} → eqb Token.Eof K ≡ false → Fits w xs
-        → ((j : ℕ) (row : List Seen) (ys : List RowToken) → Taken K w xs j row ys → Sim P (k true (moveTo (suc j) row w)) (h (lexeme text tokens j) ys))
+        → ((j : ℕ) (row : List Seen) (ys : List RowToken) → Taken K w xs j row ys → Sim P (k true (moveTo (suc j) row w)) (h (lexemeOf s j) ys))
         → (begins K xs ≡ false → (i : ℕ) → Sim P (k false (moveTo i (w .row) w)) m)
-        → Sim P (run text tokens end bound r (eat K) w k) (on K xs h m)
+        → Sim P (runs s (eat K) w k) (on K xs h m)
     unfolding run eat check on if begins
     eat-rule w k {K} {xs} h {m} n f hit miss =
         peek-rule w kept f (λ i e. rw e (stays i (eqb Token.Eof K) n (miss (rw e refl) i)))
         (λ j kind ys e ne. rw e (go j kind ys e (eqb kind K) refl))
       where
         stays : (i : ℕ) (b : Bool) → b ≡ false → Sim P (k false (moveTo i (w .row) w)) m
-            → Sim P (elim b [ true ↦ run text tokens end bound r pass (moveTo i (w .row) w) (λ _ v. k true v) | false ↦ k false (moveTo i (w .row) w) ]) m
+            → Sim P (elim b [ true ↦ runs s pass (moveTo i (w .row) w) (λ _ v. k true v) | false ↦ k false (moveTo i (w .row) w) ]) m
         stays i true q s = absurd (true≢false q)
         stays i false q s = s
 
         kept : ℕ → World → Fate B
-        kept found u = elim (eqb found K) [ true ↦ run text tokens end bound r pass u (λ _ v. k true v) | false ↦ k false u ]
+        kept found u = elim (eqb found K) [ true ↦ runs s pass u (λ _ v. k true v) | false ↦ k false u ]
 
-        go : (j kind : ℕ) (ys : List RowToken) → xs ≡ token kind (lexeme text tokens j) ∷ ys → (b : Bool) → eqb kind K ≡ b
-            → Sim P (elim b [ true ↦ run text tokens end bound r pass (moveTo j (w .row) w) (λ _ v. k true v) | false ↦ k false (moveTo j (w .row) w) ]) (if b (h (lexeme text tokens j) ys) m)
+        go : (j kind : ℕ) (ys : List RowToken) → xs ≡ token kind (lexemeOf s j) ∷ ys → (b : Bool) → eqb kind K ≡ b
+            → Sim P (elim b [ true ↦ runs s pass (moveTo j (w .row) w) (λ _ v. k true v) | false ↦ k false (moveTo j (w .row) w) ]) (if b (h (lexemeOf s j) ys) m)
         go j kind ys e true q =
             let z : kind ≡ K = eqb-true kind K q in
-            let e′ : xs ≡ token K (lexeme text tokens j) ∷ ys = rw (← z) e in
+            let e′ : xs ≡ token K (lexemeOf s j) ∷ ys = rw (← z) e in
             pass-rule (moveTo j (w .row) w) (λ _ v. k true v) f e′ (λ i row v t. rw v (hit i row ys (record { inside = t .inside; kind = t .kind; first = t .first; fit = t .fit })))
         go j kind ys e false q = miss (rw e q) j
 
     -- `check` likewise: the token is still ahead.
     pub check-rule : (w : World) (k : Bool → World → Fate B) {K : ℕ} {xs : List RowToken} (h : Lexeme → List RowToken → Outcome) {m : Outcome} → eqb Token.Eof K ≡ false → Fits w xs
-        → ((j : ℕ) (ys : List RowToken) → xs ≡ token K (lexeme text tokens j) ∷ ys → Sim P (k true (moveTo j (w .row) w)) (h (lexeme text tokens j) ys))
+        → ((j : ℕ) (ys : List RowToken) → xs ≡ token K (lexemeOf s j) ∷ ys → Sim P (k true (moveTo j (w .row) w)) (h (lexemeOf s j) ys))
         → (begins K xs ≡ false → (i : ℕ) → Sim P (k false (moveTo i (w .row) w)) m)
-        → Sim P (run text tokens end bound r (check K) w k) (on K xs h m)
+        → Sim P (runs s (check K) w k) (on K xs h m)
     unfolding run check on if begins
     check-rule w k {K} {xs} h {m} n f hit miss =
         peek-rule w (λ found u. k (eqb found K) u) f (λ i e. rw (n, e) (miss (rw e refl) i))
         (λ j kind ys e ne. rw e (go j kind ys e (eqb kind K) refl))
       where
-        go : (j kind : ℕ) (ys : List RowToken) → xs ≡ token kind (lexeme text tokens j) ∷ ys → (b : Bool) → eqb kind K ≡ b → Sim P (k b (moveTo j (w .row) w)) (if b (h (lexeme text tokens j) ys) m)
+        go : (j kind : ℕ) (ys : List RowToken) → xs ≡ token kind (lexemeOf s j) ∷ ys → (b : Bool) → eqb kind K ≡ b → Sim P (k b (moveTo j (w .row) w)) (if b (h (lexemeOf s j) ys) m)
         go j kind ys e true q = let z : kind ≡ K = eqb-true kind K q in hit j ys (rw (← z) e)
         go j kind ys e false q = miss (rw e q) j
 
     -- A kind that the row begins with, or not, is known beforehand.
     pub check-hit : (w : World) (k : Bool → World → Fate B) {K : ℕ} {v : Lexeme} {xs ys : List RowToken} {o : Outcome} → Fits w xs → xs ≡ token K v ∷ ys
-        → ((i : ℕ) → Sim P (k true (moveTo i (w .row) w)) o) → Sim P (run text tokens end bound r (check K) w k) o
+        → ((i : ℕ) → Sim P (k true (moveTo i (w .row) w)) o) → Sim P (runs s (check K) w k) o
     unfolding run check
     check-hit w k {K} f e h =
         peek-rule w (λ found u. k (eqb found K) u) f (λ i q. absurd (let z : _≡_ {A = ℕ} 0 1 = cc in omega arith))
         (λ j kind ys q ne. let z : kind ≡ K = cc in rw (eq-eqb kind K z) (h j))
 
     pub check-miss : (w : World) (k : Bool → World → Fate B) (K : ℕ) {xs : List RowToken} {o : Outcome} → eqb Token.Eof K ≡ false → Fits w xs → begins K xs ≡ false
-        → ((i : ℕ) → Sim P (k false (moveTo i (w .row) w)) o) → Sim P (run text tokens end bound r (check K) w k) o
+        → ((i : ℕ) → Sim P (k false (moveTo i (w .row) w)) o) → Sim P (runs s (check K) w k) o
     unfolding run check begins
     check-miss w k K n f e h =
         peek-rule w (λ found u. k (eqb found K) u) f (λ i q. rw n (h i))
@@ -170,24 +185,24 @@ module _ (text tokens : List ℕ) (end bound : ℕ) where
     -- `eof`.
     pub eof-rule : (w : World) (k : Bool → World → Fate B) {xs : List RowToken} {o : Outcome} → Fits w xs
         → (xs ≡ [] → (i : ℕ) → Sim P (k true (moveTo i (w .row) w)) o)
-        → ((j kind : ℕ) (ys : List RowToken) → xs ≡ token kind (lexeme text tokens j) ∷ ys → Sim P (k false (moveTo j (w .row) w)) o)
-        → Sim P (run text tokens end bound r eof w k) o
+        → ((j kind : ℕ) (ys : List RowToken) → xs ≡ token kind (lexemeOf s j) ∷ ys → Sim P (k false (moveTo j (w .row) w)) o)
+        → Sim P (runs s eof w k) o
     unfolding run eof check
     eof-rule w k f h g = peek-rule w (λ found u. k (eqb found Token.Eof) u) f (λ i e. h e i) (λ j kind ys e n. rw n (g j kind ys e))
 
     -- A report is made: the row is in no rule.
-    pub unexpected-rule : (w : World) (k : Unit {0} → World → Fate B) {xs : List RowToken} → Fits w xs → Sim P (run text tokens end bound r emitUnexpected w k) failed
+    pub unexpected-rule : (w : World) (k : Unit {0} → World → Fate B) {xs : List RowToken} → Fits w xs → Sim P (runs s emitUnexpected w k) failed
     unfolding run emitUnexpected
     unexpected-rule w k f = peek-rule w (λ _ _. fail) f (λ i e. fails) (λ j kind ys e n. fails)
 
     -- `expect` beside a token that has to be there.
     pub expect-rule : (w : World) (k : Bool → World → Fate B) {K : ℕ} {xs : List RowToken} (h : Lexeme → List RowToken → Outcome) → eqb Token.Eof K ≡ false → Fits w xs
-        → ((j : ℕ) (row : List Seen) (ys : List RowToken) → Taken K w xs j row ys → Sim P (k true (moveTo (suc j) row w)) (h (lexeme text tokens j) ys))
-        → Sim P (run text tokens end bound r (expect K) w k) (on K xs h failed)
+        → ((j : ℕ) (row : List Seen) (ys : List RowToken) → Taken K w xs j row ys → Sim P (k true (moveTo (suc j) row w)) (h (lexemeOf s j) ys))
+        → Sim P (runs s (expect K) w k) (on K xs h failed)
     unfolding run expect
     expect-rule w k h n f hit = eat-rule w _ h n f hit (λ _ i. unexpected-rule (moveTo i (w .row) w) _ f)
 
     pub expect-hit : (w : World) (k : Bool → World → Fate B) {K : ℕ} {v : Lexeme} {xs ys : List RowToken} {o : Outcome} → Fits w xs → xs ≡ token K v ∷ ys
-        → ((j : ℕ) (row : List Seen) → Taken K w xs j row ys → Sim P (k true (moveTo (suc j) row w)) o) → Sim P (run text tokens end bound r (expect K) w k) o
+        → ((j : ℕ) (row : List Seen) → Taken K w xs j row ys → Sim P (k true (moveTo (suc j) row w)) o) → Sim P (runs s (expect K) w k) o
     unfolding run expect eat
     expect-hit w k f e h = check-hit w _ f e (λ i. pass-rule (moveTo i (w .row) w) _ f e (λ j row v t. h j row (record { inside = t .inside; kind = t .kind; first = t .first; fit = t .fit })))
