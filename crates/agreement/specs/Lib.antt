@@ -1,4 +1,6 @@
 pub mod Run
 pub mod Sim
 pub mod Steps
+pub mod Leaves
+pub mod Lists
 pub mod Statements

@@ -1,5 +1,5 @@
 -- The abstract run beside the parser of rows (`Parser`, crate chart): what it is that they agree, and the steps that look at tokens.
-use mathlib.Core.Path.{_≡_, refl, sym, _∙_, ap}
+use mathlib.Core.Path.{_≡_, refl, sym, _∙_, ap, subst}
 use mathlib.Core.Bool.{Bool, true, false, true≢false}
 use mathlib.Core.List.{List, [], _∷_}
 use Prim.Native.Nat.{ℕ, zero, suc, _+_, _<_, _≤_, _^_}
@@ -38,6 +38,14 @@ then k c (gives (made {a} {u} {ts} {ys} q)) h = h a u ts ys q
 then k c fails h = fails
 then k c sinks h = sinks
 
+-- The trees are made to others.
+pub mapped : {A : Type 0} {Q S : A → World → Trees → List RowToken → Type 0} {f : Fate A} {o : Outcome} (g : Trees → Trees) → Sim (Made Q) f o
+    → ((a : A) (u : World) (ts : Trees) (ys : List RowToken) → Q a u ts ys → S a u (g ts) ys) → Sim (Made S) f (bind o (λ ts ys. Chart.ok (g ts) ys))
+unfolding bind
+mapped g (gives (made {a} {u} {ts} {ys} q)) h = gives (made (h a u ts ys q))
+mapped g fails h = fails
+mapped g sinks h = sinks
+
 -- The text, its tokens and where they end; how many turns a loop may take; the readers one level deeper, of the abstract run and of rows.
 pub record Setting : Type 0 where
   pub text : List ℕ
@@ -52,6 +60,14 @@ runs s p w k = run (s .text) (s .tokens) (s .end) (s .bound) (s .readers) p w k
 
 abbrev pub lexemeOf : Setting → ℕ → Lexeme
 lexemeOf s i = lexeme (s .text) (s .tokens) i
+
+-- A program whose agreement is known, and what comes after it.
+pub call : (s : Setting) {A B : Type 0} {Q : A → World → Trees → List RowToken → Type 0} {P : B → World → Outcome → Type 0} (p : Prog A) (w : World) (k : A → World → Fate B) (c : Trees → List RowToken → Outcome) {o : Outcome}
+    → Sim (Made Q) (runs s p w ok) o → ((a : A) (u : World) (ts : Trees) (ys : List RowToken) → Q a u ts ys → Sim P (k a u) (c ts ys)) → Sim P (runs s p w k) (bind o c)
+call s {A} {B} {P = P} p w k c {o} h g =
+    let e : runs s p w ok ≡ evalA (s .text) (s .tokens) (s .end) (s .bound) (s .readers) p w = run-ok (s .text) (s .tokens) (s .end) (s .bound) (s .readers) p w in
+    let q : runs s {A = A} {B = B} p w k ≡ bindA (evalA (s .text) (s .tokens) (s .end) (s .bound) (s .readers) p w) k = run-is (s .text) (s .tokens) (s .end) (s .bound) (s .readers) p w k in
+    subst (λ f. Sim P f (bind o c)) (sym q) (then k c (rw e at h) g)
 
 -- How many words values may take that are made of tokens: one, and one for each byte.
 unfoldable pub cost : List RowToken → ℕ
@@ -84,6 +100,7 @@ module _ (s : Setting) where
     pub kind : tokenKind (wordAt (s .tokens) j) ≡ K
     pub first : xs ≡ token K (lexemeOf s j) ∷ ys
     pub fit : Fit (w .store) (w .values) row (w .sane) ys
+    pub shorter : length ys < length xs
 
   -- What is ahead once a token is passed.
   passed-fit : (w : World) {xs ys : List RowToken} {K : ℕ} {v : Lexeme} {row : List Seen} → Fits w xs → xs ≡ token K v ∷ ys → Ahead row ys → Fit (w .store) (w .values) row (w .sane) ys
@@ -125,7 +142,7 @@ module _ (s : Setting) where
         → ((j : ℕ) (row : List Seen) → v ≡ lexemeOf s j → Taken K w xs j row ys → Sim P (k tt (moveTo (suc j) row w)) o)
         → Sim P (runs s pass w k) o
     pass-rule w k {xs} {ys} {K} {v} f e h =
-        pass-at w k refl (f .ahead) e (λ j row l t q a. h j row q (record { inside = l; kind = t; first = rw (← q) e; fit = passed-fit w f e a }))
+        pass-at w k refl (f .ahead) e (λ j row l t q a. h j row q (record { inside = l; kind = t; first = rw (← q) e; fit = passed-fit w f e a; shorter = rw e (omega arith) }))
 
     -- `eat` beside what the chart does on a token.
     pub eat-rule : (w : World) (k : Bool → World → Fate B) {K : ℕ} {xs : List RowToken} (h : Lexeme → List RowToken → Outcome) {m : Outcome} → eqb Token.Eof K ≡ false → Fits w xs
@@ -150,7 +167,7 @@ module _ (s : Setting) where
         go j kind ys e true q =
             let z : kind ≡ K = eqb-true kind K q in
             let e′ : xs ≡ token K (lexemeOf s j) ∷ ys = rw (← z) e in
-            pass-rule (moveTo j (w .row) w) (λ _ v. k true v) f e′ (λ i row v t. rw v (hit i row ys (record { inside = t .inside; kind = t .kind; first = t .first; fit = t .fit })))
+            pass-rule (moveTo j (w .row) w) (λ _ v. k true v) f e′ (λ i row v t. rw v (hit i row ys (record { inside = t .inside; kind = t .kind; first = t .first; fit = t .fit; shorter = t .shorter })))
         go j kind ys e false q = miss (rw e q) j
 
     -- `check` likewise: the token is still ahead.
@@ -182,6 +199,11 @@ module _ (s : Setting) where
         peek-rule w (λ found u. k (eqb found K) u) f (λ i q. rw n (h i))
         (λ j kind ys q ne. let z : eqb kind K ≡ false = rw q at e in rw z (h j))
 
+    -- Whichever it is.
+    pub check-either : (w : World) (k : Bool → World → Fate B) (K : ℕ) {xs : List RowToken} {o : Outcome} → Fits w xs → ((b : Bool) (i : ℕ) → Sim P (k b (moveTo i (w .row) w)) o) → Sim P (runs s (check K) w k) o
+    unfolding run check
+    check-either w k K f h = peek-rule w (λ found u. k (eqb found K) u) f (λ i e. h (eqb Token.Eof K) i) (λ j kind ys e n. h (eqb kind K) j)
+
     -- `eof`.
     pub eof-rule : (w : World) (k : Bool → World → Fate B) {xs : List RowToken} {o : Outcome} → Fits w xs
         → (xs ≡ [] → (i : ℕ) → Sim P (k true (moveTo i (w .row) w)) o)
@@ -189,6 +211,10 @@ module _ (s : Setting) where
         → Sim P (runs s eof w k) o
     unfolding run eof check
     eof-rule w k f h g = peek-rule w (λ found u. k (eqb found Token.Eof) u) f (λ i e. h e i) (λ j kind ys e n. rw n (g j kind ys e))
+
+    pub eof-either : (w : World) (k : Bool → World → Fate B) {xs : List RowToken} {o : Outcome} → Fits w xs → ((b : Bool) (i : ℕ) → Sim P (k b (moveTo i (w .row) w)) o) → Sim P (runs s eof w k) o
+    unfolding run eof
+    eof-either w k f h = check-either w k Token.Eof f h
 
     -- A report is made: the row is in no rule.
     pub unexpected-rule : (w : World) (k : Unit {0} → World → Fate B) {xs : List RowToken} → Fits w xs → Sim P (runs s emitUnexpected w k) failed
@@ -205,4 +231,8 @@ module _ (s : Setting) where
     pub expect-hit : (w : World) (k : Bool → World → Fate B) {K : ℕ} {v : Lexeme} {xs ys : List RowToken} {o : Outcome} → Fits w xs → xs ≡ token K v ∷ ys
         → ((j : ℕ) (row : List Seen) → Taken K w xs j row ys → Sim P (k true (moveTo (suc j) row w)) o) → Sim P (runs s (expect K) w k) o
     unfolding run expect eat
-    expect-hit w k f e h = check-hit w _ f e (λ i. pass-rule (moveTo i (w .row) w) _ f e (λ j row v t. h j row (record { inside = t .inside; kind = t .kind; first = t .first; fit = t .fit })))
+    expect-hit w k f e h = check-hit w _ f e (λ i. pass-rule (moveTo i (w .row) w) _ f e (λ j row v t. h j row (record { inside = t .inside; kind = t .kind; first = t .first; fit = t .fit; shorter = t .shorter })))
+
+    pub expect-miss : (w : World) (k : Bool → World → Fate B) (K : ℕ) {xs : List RowToken} → eqb Token.Eof K ≡ false → Fits w xs → begins K xs ≡ false → Sim P (runs s (expect K) w k) failed
+    unfolding run expect eat
+    expect-miss w k K n f e = check-miss w _ K n f e (λ i. unexpected-rule (moveTo i (w .row) w) _ f)

@@ -12,7 +12,8 @@ use lib.Dec.{eqb, ltb, leb}
 use lib.ListN.{length, length-append}
 use Rattle.words.specs.Token
 use Rattle.words.specs.Node
-use Rattle.words.specs.Words.{nodeKind, nodePayload, nodeHead}
+use Rattle.words.specs.Words.{tokenKind, nodeKind, nodePayload, nodeHead}
+use Rattle.literals.specs.Spelling.{wordAt, spelling, firstAlike}
 use Rattle.definition.specs.declared.Mode.{Mode}
 use Rattle.definition.specs.declared.Unfinished.{Unfinished}
 use Rattle.definition.specs.Prog.{Then, endWord, headWord, enterExpr, enterBlock}
@@ -151,8 +152,11 @@ module _ (s : Setting) where
   abbrev pub Blocked : World → ℕ → List RowToken → ℕ → World → Outcome → Type 0
   Blocked w kind xs = Made (λ n u ts ys. Done w u n (node kind (flags 0) ts) × Fits s u ys × (length ys < length xs))
 
-  -- The readers one level deeper agree.
+  -- The readers one level deeper agree, and payloads have room for the numbers of tokens.
   pub record Agrees : Type 0 where
+    pub few : length (s .tokens) ≤ 2 ^ 26
+    pub alike : (kind i : ℕ) → i < length (s .tokens) → tokenKind (wordAt (s .tokens) i) ≡ kind
+        → (firstAlike (s .text) (s .tokens) kind i < length (s .tokens)) × (spelling (s .text) (s .tokens) (firstAlike (s .text) (s .tokens) kind i) ≡ spelling (s .text) (s .tokens) i)
     pub exprs : (mode : Mode) (min level : ℕ) (w : World) (xs : List RowToken) → Ranked min level → Fits s w xs → Sim (Found w xs) (s .readers .expr mode min w) (s .rows .expr (allowsStructLiteral mode) level xs)
     pub blocks : (start kind : ℕ) (w : World) (xs : List RowToken) → isFlagged kind 0 ≡ true → Fits s w xs → Sim (Blocked w kind xs) (s .readers .block start kind w) (s .rows .block xs)
 

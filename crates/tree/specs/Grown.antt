@@ -33,6 +33,16 @@ unfolding _⊕_ sizes
 sizes-⊕ none b = omega arith
 sizes-⊕ (t ▸ ts) b = let e : sizes (ts ⊕ b) ≡ sizes ts + sizes b = sizes-⊕ ts b in omega arith
 
+pub ⊕-assoc : (a b c : Trees) → (a ⊕ b) ⊕ c ≡ a ⊕ (b ⊕ c)
+unfolding _⊕_
+⊕-assoc none b c = refl
+⊕-assoc (t ▸ ts) b c = ap (λ (r : Trees). t ▸ r) (⊕-assoc ts b c)
+
+pub ⊕-none : (a : Trees) → a ⊕ none ≡ a
+unfolding _⊕_
+⊕-none none = refl
+⊕-none (t ▸ ts) = ap (λ (r : Trees). t ▸ r) (⊕-none ts)
+
 -- What the nodes of the store say, by the text, its tokens and the values so far.
 module _ (text tokens : List ℕ) where
   abbrev saysAt : List ℕ → Node → Option Value

@@ -16,17 +16,7 @@ use Rattle.definition.specs.Abstract.{Node, nodeAt}
 use Rattle.definition.specs.Encodes.{place, next, firstKid, Kids, nobody, kid, Plain, Encodes}
 use Rattle.chart.specs.Tree.{Value, Tree, Trees, node, none, _▸_, _⊕_}
 use Rattle.tree.specs.Stored.{where-so, said, joined, treesFrom, stored}
-use Rattle.tree.specs.Grown.{size, sizes, sizes-⊕, Is, Are, is, no-one, and, Built}
-
-⊕-assoc : (a b c : Trees) → (a ⊕ b) ⊕ c ≡ a ⊕ (b ⊕ c)
-unfolding _⊕_
-⊕-assoc none b c = refl
-⊕-assoc (t ▸ ts) b c = ap (λ (r : Trees). t ▸ r) (⊕-assoc ts b c)
-
-⊕-none : (a : Trees) → a ⊕ none ≡ a
-unfolding _⊕_
-⊕-none none = refl
-⊕-none (t ▸ ts) = ap (λ (r : Trees). t ▸ r) (⊕-none ts)
+use Rattle.tree.specs.Grown.{size, sizes, sizes-⊕, Is, Are, is, no-one, and, Built, ⊕-assoc, ⊕-none}
 
 -- Where a row of children, the last one first, begins; n stands behind it.
 start : List ℕ → ℕ → ℕ
