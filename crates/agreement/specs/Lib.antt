@@ -3,4 +3,5 @@ pub mod Sim
 pub mod Steps
 pub mod Leaves
 pub mod Lists
+pub mod Closing
 pub mod Statements

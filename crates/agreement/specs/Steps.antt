@@ -68,7 +68,7 @@ pub record Ranked (min level : ℕ) : Type 0 where
   pub below : ltb min 21 ≡ true
   pub same : (j : ℕ) → ltb (2 * j + 1) min ≡ not (leb level j)
 
-both : (a b : Bool) → a ≡ true → b ≡ true → (a && b) ≡ true
+pub both : (a b : Bool) → a ≡ true → b ≡ true → (a && b) ≡ true
 both a b e f = rw (e, f)
 
 module _ (s : Setting) where
@@ -81,7 +81,7 @@ module _ (s : Setting) where
   Done w u n t = Built (s .text) (s .tokens) (w .store) (w .values) (u .store) (u .values) n t
 
   -- Another store, as long or longer.
-  store-fit : (w u : World) {xs : List RowToken} → Fits s w xs → length (w .store) ≤ length (u .store) → u .values ≡ w .values → u .row ≡ w .row → u .sane ≡ w .sane → Fits s u xs
+  pub store-fit : (w u : World) {xs : List RowToken} → Fits s w xs → length (w .store) ≤ length (u .store) → u .values ≡ w .values → u .row ≡ w .row → u .sane ≡ w .sane → Fits s u xs
   store-fit w u f l v r s = rw (v, r, s) (record { ahead = f .ahead; room = f .room; few = f .few; born = omega (arith, f .born); sound = f .sound })
 
   module _ {B : Type 0} {P : B → World → Outcome → Type 0} where
