@@ -4,4 +4,5 @@ pub mod Steps
 pub mod Leaves
 pub mod Lists
 pub mod Closing
+pub mod Branches
 pub mod Statements
