@@ -11,15 +11,15 @@ use native.Mathlib.Nat.{le-of-eq}
 use lib.ListN.{length}
 use Rattle.words.specs.Words.{nodeKind, nodePayload, nodeHead}
 use Rattle.definition.specs.declared.Unfinished.{Unfinished}
-use Rattle.definition.specs.Prog.{endWord, firstWord}
-use Rattle.definition.specs.Nodes.{closeNodeAt, closeNode, pushChild}
+use Rattle.definition.specs.Prog.{headWord, endWord, firstWord}
+use Rattle.definition.specs.Nodes.{closeNodeAt, closeNode, updateKind, pushChild}
 use Rattle.definition.specs.Expressions.{pushClosing}
 use Rattle.definition.specs.Abstract.{Node, nodeAt, written, adopted, wordIn, World, Fate, withStore, withLink}
 use Rattle.definition.specs.Encodes.{written-length, adopted-length}
 use Rattle.chart.specs.Row.{RowToken}
 use Rattle.chart.specs.Tree.{flags, Tree, Trees, node, none, _▸_, _⊕_}
 use Rattle.chart.specs.Parser.{Outcome}
-use Rattle.tree.specs.Grown.{size, sizes, ⊕-assoc, Built, Growing, Waiting, ahead, closed, waits, waits-on, adopt, ended, wait-ended}
+use Rattle.tree.specs.Grown.{size, sizes, ⊕-assoc, Built, Growing, Waiting, ahead, closed, waits, waits-on, adopt, rekinded, wait-rekinded, ended, wait-ended}
 use Rattle.agreement.specs.Run.{run}
 use Rattle.agreement.specs.Sim.{Sim, Setting, runs, Fits}
 use Rattle.agreement.specs.Steps.{isFlagged, flagged, Open, Done, store-fit, both, push-rule, close-branch}
@@ -62,3 +62,18 @@ module _ (s : Setting) where
         let long : length (adopted (x .node) b st₃) ≡ length (u .store) = adopted-length (x .node) b st₃ ∙ (written-length n endWord at st₂ ∙ (adopted-length (x .node) n st₁ ∙ written-length n endWord (u .at) (u .store))) in
         g (record { node = x .node; last = b }) _ (rw same at g₃)
         (record { ahead = f .ahead; room = f .room; few = f .few; born = rw long (f .born); sound = both _ _ (both _ _ (f .sound) may₁) may₂ })
+
+    -- A child was read; the kind of its parent is set anew, then the child is linked.
+    pub update-push-rule : (w u v : World) (k : Unfinished → World → Fate B) (x : Unfinished) (c kind payload : ℕ) {h : ℕ} {ts : Trees} {t : Tree} {xs : List RowToken} {o : Outcome} → Open s w u x h 0 ts → Done s u v c t → Fits s v xs
+        → ((y : Unfinished) (z : World) → Open s w z y (nodeHead kind payload) 0 (ts ⊕ (t ▸ none)) → Fits s z xs → Sim P (k y z) o)
+        → Sim P (runs s (updateKind x kind payload) v (λ _ z. runs s (pushChild x c) z k)) o
+    unfolding run updateKind pushChild
+    update-push-rule w u v k x c kind payload {h} {ts} {t} q d f g =
+        let new = nodeHead kind payload in
+        let g₁ : Open s w v x h (size t + 0) ts = ahead (s .text) (s .tokens) (omega (arith, d .size-is)) (d .old) (d .says) (omega (arith, q .size-is, d .size-is)) q in
+        let child : Waiting (s .text) (s .tokens) (w .store) (v .store) (v .values) (x .node) c t =
+        waits (s .text) (s .tokens) (omega (arith, q .size-is)) d (omega arith) (λ i m. refl) (λ i p y z. z) (λ i m p. omega (arith, q .high)) in
+        let (g₂, may) = adopt (s .text) (s .tokens) (rekinded (s .text) (s .tokens) new g₁) (wait-rekinded (s .text) (s .tokens) new child) (omega (arith, q .below, d .low)) in
+        let st = written (x .node) headWord new (v .store) in
+        let long : length (adopted (x .node) c st) ≡ length (v .store) = adopted-length (x .node) c st ∙ written-length (x .node) headWord new (v .store) in
+        g (record { node = x .node; last = c }) _ g₂ (record { ahead = f .ahead; room = f .room; few = f .few; born = rw long (f .born); sound = both _ _ (f .sound) may })

@@ -16,7 +16,7 @@ use Rattle.words.specs.Words.{tokenKind, nodeKind, nodePayload, nodeHead}
 use Rattle.literals.specs.Spelling.{wordAt, spelling, firstAlike}
 use Rattle.definition.specs.declared.Mode.{Mode}
 use Rattle.definition.specs.declared.Unfinished.{Unfinished}
-use Rattle.definition.specs.Prog.{Then, endWord, headWord, enterExpr, enterBlock}
+use Rattle.definition.specs.Prog.{Prog, Then, endWord, headWord, enterExpr, enterBlock}
 use Rattle.definition.specs.Nodes.{allocNodeFrom, allocNode, closeNodeAt, closeNode, updateKind, pushChild}
 use Rattle.definition.specs.Expressions.{unwrapOrError, tryParseExpr, parseExpr, blockHere, allowsStructLiteral}
 use Rattle.definition.specs.Abstract as Abstract
@@ -30,7 +30,7 @@ use Rattle.chart.specs.Parser as Chart
 use Rattle.tree.specs.Stored.{said, isName}
 use Rattle.tree.specs.Grown.{size, sizes, Built, Growing, opened, closed, push, ended, rekinded}
 use Rattle.agreement.specs.Run.{run}
-use Rattle.agreement.specs.Sim.{Sim, gives, fails, sinks, Made, made, then, Setting, runs, Fits, unexpected-rule}
+use Rattle.agreement.specs.Sim.{Sim, gives, fails, sinks, Made, made, then, call, Setting, runs, Fits, unexpected-rule}
 
 -- A kind whose payload is flags or an operator, where both fit their parts.
 unfoldable pub isFlagged : ℕ → ℕ → Bool
@@ -151,6 +151,18 @@ module _ (s : Setting) where
   -- A block of this kind: its node with the list of statements and the closing expression.
   abbrev pub Blocked : World → ℕ → List RowToken → ℕ → World → Outcome → Type 0
   Blocked w kind xs = Made (λ n u ts ys. Done w u n (node kind (flags 0) ts) × Fits s u ys × (length ys < length xs))
+
+  -- One tree.
+  pub data One (w : World) (xs : List RowToken) (n : ℕ) (u : World) : Trees → List RowToken → Type 0 where
+    one : {t : Tree} {ys : List RowToken} → Done w u n t → Fits s u ys → length ys < length xs → One w xs n u (t ▸ none) ys
+
+  -- A program that reads one, and what comes after it.
+  pub call-one : {B : Type 0} {P : B → World → Outcome → Type 0} (p : Prog ℕ) (w : World) (k : ℕ → World → Fate B) (c : Trees → List RowToken → Outcome) {xs : List RowToken} {o : Outcome} → Sim (Made (One w xs)) (runs s p w ok) o
+      → ((n : ℕ) (u : World) (t : Tree) (ys : List RowToken) → Done w u n t → Fits s u ys → length ys < length xs → Sim P (k n u) (c (t ▸ none) ys)) → Sim P (runs s p w k) (bind o c)
+  call-one {P = P} p w k c {xs} h g = call s p w k c h (λ n u ts ys. go)
+    where
+      go : {n : ℕ} {u : World} {ts : Trees} {ys : List RowToken} → One w xs n u ts ys → Sim P (k n u) (c ts ys)
+      go {n} {u} (one {t} {ys} d f l) = g n u t ys d f l
 
   -- The readers one level deeper agree, and payloads have room for the numbers of tokens.
   pub record Agrees : Type 0 where

@@ -378,3 +378,21 @@ module _ (text tokens : List ℕ) where
         apart = w .apart;
         tree = is-kept (w .tree) stays;
       }
+
+  -- The kind of the node that it waits for is set anew.
+  pub wait-rekinded : {st cur : List Node} {more : List ℕ} {p c : ℕ} {t : Tree} (new : ℕ) → Waiting st cur more p c t → Waiting st (written p headWord new cur) more p c t
+  wait-rekinded {st} {cur} {more} {p} {c} new w =
+      let z : length (written p headWord new cur) ≡ length cur = written-length p headWord new cur in
+      let stays : Kept cur (written p headWord new cur) more more (Beside st cur p) (Beside st (written p headWord new cur) p) = record {
+        within = λ i x. (x .0, rw z (x .1), x .2);
+        head = λ i x. ap (λ (y : Node). y .head) (other-written p headWord new cur i (x .2));
+        kids = λ i x. kids-written p headWord new cur i;
+        says = λ k q v x. x;
+      } in
+      record {
+        low = w .low;
+        high = rw z (w .high);
+        root = own-written p headWord new cur c ∙ w .root;
+        apart = w .apart;
+        tree = is-kept (w .tree) stays;
+      }
