@@ -28,7 +28,7 @@ use Rattle.agreement.specs.Run.{run, turns}
 use Rattle.agreement.specs.Sim.{Sim, gives, fails, Made, made, mapped, call, Setting, runs, lexemeOf, Fits, eat-rule, check-rule, check-either, eof-rule, eof-either, expect-rule, expect-hit, expect-miss, unexpected-rule}
 use Rattle.agreement.specs.Steps.{isFlagged, Open, Done, One, one, call-one, Agrees, alloc-rule, alloc-here, push-rule, close-branch, update-rule, expr-rule, here-rule}
 use Rattle.agreement.specs.Leaves.{ident-rule}
-use Rattle.agreement.specs.Lists.{Longer}
+use Rattle.agreement.specs.Lists.{Longer, longer}
 use Rattle.agreement.specs.Closing.{Closes, no-closing, closing, closing-rule, update-push-rule}
 
 module _ (s : Setting) (a : Agrees s) where
@@ -131,7 +131,7 @@ module _ (s : Setting) (a : Agrees s) where
   arm-turns (suc n) zero w u x h ts xs l l₁ o f = absurd (omega arith)
   arm-turns (suc n) (suc m) w u x h ts xs l l₁ o f =
       check-rule s u _ _ refl f
-      (λ j ys q. eof-either s (moveTo j (u .row) u) _ f (λ b i. expect-hit s (moveTo i (u .row) u) _ f q (λ j₁ row t. gives (made (rw (⊕-none ts) o, t .fit, t .shorter)))))
+      (λ j ys q. eof-either s (moveTo j (u .row) u) _ f (λ b i. expect-hit s (moveTo i (u .row) u) _ f q (λ j₁ row t. gives (made (record { opened = rw (⊕-none ts) o; fit = t .fit; shorter = t .shorter })))))
       (λ q j. eof-rule s (moveTo j (u .row) u) _ f
       (λ e i. rw e (expect-miss s (moveTo i (u .row) u) _ Token.RightCurly refl f q))
       (λ i kind ys e.
@@ -140,8 +140,8 @@ module _ (s : Setting) (a : Agrees s) where
       push-rule s w u v _ x c o d f₁ (λ y z o₁ f₂.
       eat-rule s z _ _ refl f₂
       (λ j₁ row vs t₁. mapped (λ us. t ▸ us) (arm-turns n m w (moveTo (suc j₁) row z) y h (ts ⊕ (t ▸ none)) vs (omega (arith, t₁ .shorter, le)) (omega (arith, t₁ .shorter, le)) o₁ (t₁ .fit))
-      (λ b v₁ us ws r. (rw (← ⊕-assoc ts (t ▸ none) us) (r .0), r .1, omega (arith, t₁ .shorter, r .2))))
-      (λ _ i₁. expect-rule s (moveTo i₁ (z .row) z) _ _ refl f₂ (λ j₁ row vs t₁. gives (made (o₁, t₁ .fit, omega (arith, t₁ .shorter))))))))))
+      (λ b v₁ us ws. longer s a t (omega (arith, t₁ .shorter))))
+      (λ _ i₁. expect-rule s (moveTo i₁ (z .row) z) _ _ refl f₂ (λ j₁ row vs t₁. gives (made (record { opened = o₁; fit = t₁ .fit; shorter = omega (arith, t₁ .shorter) })))))))))
 
   -- After `match`.
   pub match-rule : {B : Type 0} {P : B → World → Outcome → Type 0} (w : World) (k : ℕ → World → Fate B) (c : Trees → List RowToken → Outcome) (start : ℕ) {xs : List RowToken} → Fits s w xs → After P w xs Node.Match 0 k c
@@ -156,6 +156,6 @@ module _ (s : Setting) (a : Agrees s) where
       call s (Then (Loop y armTurn) (λ z. Then (expect Token.RightCurly) (λ _. Give z))) (moveTo (suc j) row v₁) _ _
       (arm-turns (s .bound) (suc (length zs)) u₁ (moveTo (suc j) row v₁) y (nodeHead Node.MatchArmList 0) none zs (t₁ .fit .few) (omega arith) o₂ (t₁ .fit))
       (λ z v₂ us vs r.
-      close-branch s u₁ v₂ _ z (r .0) refl (r .1) (λ m v₃ d₃ f₅.
+      close-branch s u₁ v₂ _ z (r .opened) refl (r .fit) (λ m v₃ d₃ f₅.
       push-rule s w u₁ v₃ _ x₁ m o₁ d₃ f₅ (λ x₂ v₄ o₃ f₆.
-      close-branch s w v₄ k x₂ o₃ refl f₆ (λ n₂ v₅ d₄ f₇. g n₂ v₅ _ vs d₄ f₇ (omega (arith, t₁ .shorter, r .2)))))))))))
+      close-branch s w v₄ k x₂ o₃ refl f₆ (λ n₂ v₅ d₄ f₇. g n₂ v₅ _ vs d₄ f₇ (omega (arith, t₁ .shorter, r .shorter)))))))))))
