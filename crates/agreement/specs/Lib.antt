@@ -5,4 +5,5 @@ pub mod Leaves
 pub mod Lists
 pub mod Closing
 pub mod Branches
+pub mod Definitions
 pub mod Statements

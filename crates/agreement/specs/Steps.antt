@@ -85,16 +85,21 @@ module _ (s : Setting) where
   store-fit w u f l v r s = rw (v, r, s) (record { ahead = f .ahead; room = f .room; few = f .few; born = omega (arith, f .born); sound = f .sound })
 
   module _ {B : Type 0} {P : B → World → Outcome → Type 0} where
-    -- A node is opened.
+    -- A node is opened; the run stands where it stood.
+    pub alloc-at : (w : World) (k : Unfinished → World → Fate B) (start kind payload : ℕ) {xs : List RowToken} {o : Outcome} → Fits s w xs
+        → ((x : Unfinished) (u : World) → u .at ≡ w .at → Open w u x (nodeHead kind payload) 0 none → Fits s u xs → Sim P (k x u) o)
+        → Sim P (runs s (allocNodeFrom start kind payload) w k) o
+    unfolding run allocNodeFrom
+    alloc-at w k start kind payload f h =
+        let new = newNode start kind payload in
+        h (record { node = length (w .store); last = 0 }) (withStore (w .store ++ (new ∷ [])) w) refl
+        (opened (s .text) (s .tokens) {st = w .store} {u = 0} (w .store) (w .values) new (omega arith) (λ i l. refl) (λ a b c d. d) refl refl)
+        (store-fit w (withStore (w .store ++ (new ∷ [])) w) f (omega (arith, length-append (w .store) (new ∷ []))) refl refl refl)
+
     pub alloc-rule : (w : World) (k : Unfinished → World → Fate B) (start kind payload : ℕ) {xs : List RowToken} {o : Outcome} → Fits s w xs
         → ((x : Unfinished) (u : World) → Open w u x (nodeHead kind payload) 0 none → Fits s u xs → Sim P (k x u) o)
         → Sim P (runs s (allocNodeFrom start kind payload) w k) o
-    unfolding run allocNodeFrom
-    alloc-rule w k start kind payload f h =
-        let new = newNode start kind payload in
-        h (record { node = length (w .store); last = 0 }) (withStore (w .store ++ (new ∷ [])) w)
-        (opened (s .text) (s .tokens) {st = w .store} {u = 0} (w .store) (w .values) new (omega arith) (λ i l. refl) (λ a b c d. d) refl refl)
-        (store-fit w (withStore (w .store ++ (new ∷ [])) w) f (omega (arith, length-append (w .store) (new ∷ []))) refl refl refl)
+    alloc-rule w k start kind payload f h = alloc-at w k start kind payload f (λ x u e. h x u)
 
     pub alloc-here : (w : World) (k : Unfinished → World → Fate B) (kind payload : ℕ) {xs : List RowToken} {o : Outcome} → Fits s w xs
         → ((x : Unfinished) (u : World) → Open w u x (nodeHead kind payload) 0 none → Fits s u xs → Sim P (k x u) o)
