@@ -28,10 +28,11 @@ use Rattle.chart.specs.Parser as Chart
 use Rattle.tree.specs.Stored.{isName}
 use Rattle.tree.specs.Grown.{⊕-assoc, ⊕-none}
 use Rattle.agreement.specs.Run.{run, turns}
-use Rattle.agreement.specs.Sim.{Sim, gives, fails, sinks, Made, made, mapped, call, Setting, runs, lexemeOf, Fits, eat-rule, check-rule, expect-rule, expect-hit}
+use Rattle.agreement.specs.Sim.{Sim, gives, fails, sinks, Made, made, mapped, call, call-try, Setting, runs, lexemeOf, Fits, eat-rule, check-rule, expect-rule, expect-hit}
 use Rattle.agreement.specs.Steps.{isFlagged, Open, Done, One, one, call-one, Agrees, alloc-at, alloc-rule, alloc-here, push-rule, close-rule, close-branch, expr-rule, here-rule}
 use Rattle.agreement.specs.Leaves.{nameTree, name-said, name-at, expect-ident-rule}
-use Rattle.agreement.specs.Lists.{Elements, onward, list-rule, list-expect}
+use Rattle.agreement.specs.Branches.{After}
+use Rattle.agreement.specs.Lists.{Longer, longer, Elements, onward, list-rule, list-expect}
 
 module _ (s : Setting) (a : Agrees s) where
   -- ---- parameters
@@ -82,3 +83,42 @@ module _ (s : Setting) (a : Agrees s) where
       push-rule s (moveTo (suc j) row u) v v₁ _ y n o₁ d f₂ (λ y₁ v₂ o₂ f₃.
       parameter-end w u (moveTo (suc j) row u) v₂ x y₁ Node.Parameter h ts refl (t .shorter) o refl refl o₂ f₃))))
       (λ _ j. gives (no-parameter j)))
+
+  parameters : Elements s a Token.RightRound parseParameter (readParameters (s .rows))
+  unfolding readParameters try _⊕_
+  parameters m w u x h ts xs k o f g z =
+      call-try s (parseParameter x) u k (λ t ys. on Token.Comma ys (λ _ zs. bind (readParameters (s .rows) m zs) (λ us ws. Chart.ok (t ⊕ us) ws)) (on Token.RightRound ys (λ _ zs. Chart.ok t zs) failed)) _
+      (parameter-read w u x h ts xs o f) (λ y v. go)
+    where
+      go : {y : Option Unfinished} {v : World} {o : Outcome} → Parameter w u x h ts xs y v o → Sim (Made (Longer s a w h ts xs)) (k y v)
+          (try o (λ t ys. on Token.Comma ys (λ _ zs. bind (readParameters (s .rows) m zs) (λ us ws. Chart.ok (t ⊕ us) ws)) (on Token.RightRound ys (λ _ zs. Chart.ok t zs) failed)) (on Token.RightRound xs (λ _ ys. Chart.ok none ys) failed))
+      go (parameter {y} {z = v} {t} {ys} o₁ f₁ l) = g y v t ys o₁ f₁ l
+      go (no-parameter i) = z i
+
+  -- ---- functions
+
+  signature-read : (w u : World) (x : Unfinished) (h : ℕ) (ts : Trees) (xs : List RowToken) → Open s w u x h 0 ts → Fits s u xs → Sim (Made (Longer s a w h ts xs)) (runs s (parseFunctionSignatureAndBody x) u ok) (readSignature (s .rows) xs)
+  unfolding run parseFunctionSignatureAndBody readSignature branch _⊕_ isFlagged isName
+  signature-read w u x h ts xs o f =
+      alloc-here s u _ Node.ParamList 0 f (λ y v o₁ f₁.
+      list-expect s a Token.RightRound refl parseParameter (readParameters (s .rows)) parameters u v _ _ Token.LeftRound y refl o₁ f₁ (λ y₁ v₁ ps zs o₂ f₂ l.
+      close-branch s u v₁ _ y₁ o₂ refl f₂ (λ n v₂ d f₃.
+      push-rule s w u v₂ _ x n o d f₃ (λ x₁ v₃ o₃ f₄.
+      expr-rule s a v₃ _ _ NoPostFixCurlyBrace f₄ (λ n₁ v₄ t ws d₁ f₅ l₁.
+      push-rule s w v₃ v₄ _ x₁ n₁ o₃ d₁ f₅ (λ x₂ v₅ o₄ f₆.
+      here-rule s a v₅ _ _ f₆ (λ n₂ v₆ bs vs d₂ f₇ l₂.
+      push-rule s w v₅ v₆ _ x₂ n₂ o₄ d₂ f₇ (λ x₃ v₇ o₅ f₈.
+      gives (made (record { opened = rw (⊕-assoc ts _ _, ⊕-assoc ts _ _) at o₅; fit = f₈; shorter = omega arith }))))))))))
+
+  -- After `fn`, at its opening bracket.
+  pub function-rule : {B : Type 0} {P : B → World → Outcome → Type 0} (w : World) (k : ℕ → World → Fate B) (c : Trees → List RowToken → Outcome) (start : ℕ) (eager : Bool) {xs : List RowToken} → Fits s w xs → After s a P w xs Node.FnDef (Tree.flag eager Flag.FnDef-eager) k c
+      → Sim P (runs s (parseFunctionDef start eager) w k) (bind (readSignature (s .rows) xs) c)
+  unfolding run parseFunctionDef _⊕_ isFlagged isName Tree.flag
+  function-rule w k c start eager {xs} f g =
+      alloc-rule s w _ start Node.FnDef (Tree.flag eager Flag.FnDef-eager) f (λ x u o f₁.
+      call s (parseFunctionSignatureAndBody x) u _ _ (signature-read w u x _ none xs o f₁) (λ y v us ys r.
+      close-branch s w v k y (r .opened) (flag-fits eager) (r .fit) (λ n z d f₂. g n z us ys d f₂ (r .shorter))))
+    where
+      flag-fits : (b : Bool) → isFlagged Node.FnDef (Tree.flag b Flag.FnDef-eager) ≡ true
+      flag-fits true = refl
+      flag-fits false = refl
