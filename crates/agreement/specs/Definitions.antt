@@ -97,7 +97,7 @@ module _ (s : Setting) (a : Agrees s) where
 
   -- ---- functions
 
-  signature-read : (w u : World) (x : Unfinished) (h : ℕ) (ts : Trees) (xs : List RowToken) → Open s w u x h 0 ts → Fits s u xs → Sim (Made (Longer s a w h ts xs)) (runs s (parseFunctionSignatureAndBody x) u ok) (readSignature (s .rows) xs)
+  pub signature-read : (w u : World) (x : Unfinished) (h : ℕ) (ts : Trees) (xs : List RowToken) → Open s w u x h 0 ts → Fits s u xs → Sim (Made (Longer s a w h ts xs)) (runs s (parseFunctionSignatureAndBody x) u ok) (readSignature (s .rows) xs)
   unfolding run parseFunctionSignatureAndBody readSignature branch _⊕_ isFlagged isName
   signature-read w u x h ts xs o f =
       alloc-here s u _ Node.ParamList 0 f (λ y v o₁ f₁.

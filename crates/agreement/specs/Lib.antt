@@ -6,4 +6,5 @@ pub mod Lists
 pub mod Closing
 pub mod Branches
 pub mod Definitions
+pub mod Structs
 pub mod Statements

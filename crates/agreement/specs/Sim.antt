@@ -250,3 +250,18 @@ module _ (s : Setting) where
     pub expect-miss : (w : World) (k : Bool → World → Fate B) (K : ℕ) {xs : List RowToken} → eqb Token.Eof K ≡ false → Fits w xs → begins K xs ≡ false → Sim P (runs s (expect K) w k) failed
     unfolding run expect eat
     expect-miss w k K n f e = check-miss w _ K n f e (λ i. unexpected-rule (moveTo i (w .row) w) _ f)
+
+    -- What the row begins with is looked at.
+    pub check-is : (w : World) (k : Bool → World → Fate B) (K : ℕ) {xs : List RowToken} {o : Outcome} → eqb Token.Eof K ≡ false → Fits w xs → ((i : ℕ) → Sim P (k (begins K xs) (moveTo i (w .row) w)) o) → Sim P (runs s (check K) w k) o
+    unfolding run check begins
+    check-is w k K n f h = peek-rule w (λ found u. k (eqb found K) u) f (λ i e. rw n (rw e at (h i))) (λ j kind ys e m. rw e at (h j))
+
+    pub eat-hit : (w : World) (k : Bool → World → Fate B) {K : ℕ} {v : Lexeme} {xs ys : List RowToken} {o : Outcome} → Fits w xs → xs ≡ token K v ∷ ys
+        → ((j : ℕ) (row : List Seen) → Taken K w xs j row ys → Sim P (k true (moveTo (suc j) row w)) o) → Sim P (runs s (eat K) w k) o
+    unfolding run eat
+    eat-hit w k f e h = check-hit w _ f e (λ i. pass-rule (moveTo i (w .row) w) _ f e (λ j row v t. h j row (record { inside = t .inside; kind = t .kind; first = t .first; fit = t .fit; shorter = t .shorter })))
+
+    pub eat-miss : (w : World) (k : Bool → World → Fate B) (K : ℕ) {xs : List RowToken} {o : Outcome} → eqb Token.Eof K ≡ false → Fits w xs → begins K xs ≡ false
+        → ((i : ℕ) → Sim P (k false (moveTo i (w .row) w)) o) → Sim P (runs s (eat K) w k) o
+    unfolding run eat
+    eat-miss w k K n f e h = check-miss w _ K n f e h
