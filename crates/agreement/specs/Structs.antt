@@ -18,9 +18,9 @@ use Rattle.definition.specs.declared.Mode.the-variants.{AllowAll, NoPostFixCurl
 use Rattle.definition.specs.declared.Unfinished.{Unfinished}
 use Rattle.definition.specs.Prog.{Turn, again, stop, Prog, Then, Give, Branch, Loop, position, peek, before, emitAndMark}
 use Rattle.definition.specs.Tokens.{check, eat, expect, expectCheckRecovery, emitUnexpected, contains, parseDelimited}
-use Rattle.definition.specs.Nodes.{allocNodeFrom, closeNode, pushChild, expectIdent}
+use Rattle.definition.specs.Nodes.{allocNodeFrom, allocNode, closeNode, pushChild, expectIdent}
 use Rattle.definition.specs.Nodes as Nodes
-use Rattle.definition.specs.Expressions.{parseFunctionSignatureAndBody, parseMethodDef, Members, members, parseStructField, fieldTurn, methodTurn, noMemberTurn, memberTurn, parseStructDef, parseTupleType, exprElement, fieldAssign, structLit, pushOption}
+use Rattle.definition.specs.Expressions.{parseFunctionSignatureAndBody, parseMethodDef, Members, members, parseStructField, fieldTurn, methodTurn, noMemberTurn, memberTurn, parseStructDef, parseTupleType, exprElement, fieldAssign, structLit, pushOption, tryParseExpr}
 use Rattle.definition.specs.Abstract.{Seen, World, Fate, ok, moveTo}
 use Rattle.chart.specs.Row.{Lexeme, RowToken, token, begins}
 use Rattle.chart.specs.Tree.{flags, Tree, Trees, node, none, _▸_, _⊕_, branch, named}
@@ -152,6 +152,18 @@ module _ (s : Setting) (a : Agrees s) where
   on-no K [] h m e = refl
   on-no K (token k v ∷ xs) h m e = rw (e, if)
 
+  on-yes : (K : ℕ) (xs : List RowToken) (h : Lexeme → List RowToken → Outcome) (m m₁ : Outcome) → begins K xs ≡ true → on K xs h m ≡ on K xs h m₁
+  unfolding on begins if
+  on-yes K [] h m m₁ e = absurd (false≢true e)
+  on-yes K (token k v ∷ xs) h m m₁ e = rw (e, if)
+
+  bind-try : (o : Outcome) (c : Trees → List RowToken → Outcome) → bind o c ≡ try o c failed
+  unfolding bind try
+  bind-try (Chart.ok t ys) c = refl
+  bind-try nothing c = refl
+  bind-try failed c = refl
+  bind-try Chart.deep c = refl
+
   -- `expect_check_recovery`: a report, where the token is not there.
   recover-rule : {B : Type 0} {P : B → World → Outcome → Type 0} (w : World) (k : Bool → World → Fate B) {K : ℕ} (recovery : List ℕ) {xs : List RowToken} (h : Lexeme → List RowToken → Outcome) {m : Outcome} → eqb Token.Eof K ≡ false → Fits s w xs
       → ((j : ℕ) (row : List Seen) (ys : List RowToken) → Taken s K w xs j row ys → Sim P (k true (moveTo (suc j) row w)) (h (lexemeOf s j) ys))
@@ -239,3 +251,72 @@ module _ (s : Setting) (a : Agrees s) where
           check-is s (moveTo i₃ (u .row) u) _ Token.Identifier refl f (λ i₄. rw q (
           field-rule (moveTo i₄ (u .row) u) _ (λ t ws. on Token.Comma ws (λ _ vs. bind (readStructBody (s .rows) m vs) (λ us qs. Chart.ok (t ▸ us) qs)) (bind (readMethods (s .rows) m ws) (λ us qs. Chart.ok (t ▸ us) qs))) _ f q (λ c v us ws d f₁ l₂.
           push-rule s w u v _ x c o d f₁ (λ y z o₁ f₂. after-read n m ih w h ts xs l l₁ _ y z ws o₁ f₂ l₂)))))))))))
+
+  -- ---- structs
+
+  -- From the index type on, if any.
+  body-rule : {B : Type 0} {P : B → World → Outcome → Type 0} (w u : World) (k : ℕ → World → Fate B) (c : Trees → List RowToken → Outcome) (x : Unfinished) {ts : Trees} {xs : List RowToken} → Open s w u x (nodeHead Node.StructDef 0) 0 ts → Fits s u xs
+      → ((n : ℕ) (v : World) (us : Trees) (ys : List RowToken) → Done s w v n (node Node.StructDef (flags 0) (ts ⊕ (node Node.StructBody (flags 0) us ▸ none))) → Fits s v ys → length ys < length xs → Sim P (k n v) (c us ys))
+      → Sim P (runs s (allocNode Node.StructBody 0) u (λ y v. runs s (expect Token.LeftCurly) v (λ _ z. runs s (Loop (members y false) memberTurn) z (λ e z₁. runs s (expect Token.RightCurly) z₁ (λ _ z₂. runs s (closeNode (e .body)) z₂ (λ n z₃. runs s (pushChild x n) z₃ (λ x₁ z₄. runs s (closeNode x₁) z₄ k)))))))
+      (on Token.LeftCurly xs (λ _ ys. bind (readStructBody (s .rows) (suc (length ys)) ys) c) failed)
+  unfolding run _⊕_ isFlagged isName
+  body-rule w u k c x o f g =
+      alloc-here s u _ Node.StructBody 0 f (λ y v o₁ f₁.
+      expect-rule s v _ _ refl f₁ (λ j row ys t.
+      call s (Then (Loop (members y false) memberTurn) (λ e. Then (expect Token.RightCurly) (λ _. Give (e .body)))) (moveTo (suc j) row v) _ c
+      (field-turns (s .bound) (suc (length ys)) u (moveTo (suc j) row v) y _ none ys (t .fit .few) (omega arith) o₁ (t .fit))
+      (λ z v₁ us zs r.
+      close-branch s u v₁ _ z (r .opened) refl (r .fit) (λ n v₂ d f₂.
+      push-rule s w u v₂ _ x n o d f₂ (λ x₁ v₃ o₂ f₃.
+      close-branch s w v₃ k x₁ o₂ refl f₃ (λ m v₄ d₁ f₄. g m v₄ us zs d₁ f₄ (omega (arith, t .shorter, r .shorter))))))))
+
+  -- After `struct`.
+  pub struct-rule : {B : Type 0} {P : B → World → Outcome → Type 0} (w : World) (k : ℕ → World → Fate B) (c : Trees → List RowToken → Outcome) (start : ℕ) {xs : List RowToken} → Fits s w xs → After s a P w xs Node.StructDef 0 k c
+      → Sim P (runs s (parseStructDef start) w k)
+      (on Token.LeftCurly xs (λ _ zs. bind (readStructBody (s .rows) (suc (length zs)) zs) (λ t ws. c (branch Node.StructBody 0 t) ws))
+      (bind (s .rows .expr false 0 xs) (λ t zs. on Token.LeftCurly zs (λ _ ws. bind (readStructBody (s .rows) (suc (length ws)) ws) (λ u vs. c (t ⊕ branch Node.StructBody 0 u) vs)) failed)))
+  unfolding run parseStructDef pushOption branch _⊕_
+  struct-rule {P = P} w k c start {xs} f g =
+      alloc-rule s w _ start Node.StructDef 0 f (λ x u o f₁.
+      check-is s u _ Token.LeftCurly refl f₁ (λ i. go x (moveTo i (u .row) u) o f₁ (begins Token.LeftCurly xs) refl))
+    where
+      go : (x : Unfinished) (u : World) → Open s w u x (nodeHead Node.StructDef 0) 0 none → Fits s u xs → (b : Bool) → begins Token.LeftCurly xs ≡ b
+          → Sim P (runs s (Branch b (Give Option.none) (tryParseExpr NoPostFixCurlyBrace)) u (λ index v. runs s (pushOption x index) v (λ x₁ v₁. runs s (allocNode Node.StructBody 0) v₁ (λ y v. runs s (expect Token.LeftCurly) v (λ _ z. runs s (Loop (members y false) memberTurn) z (λ e z₁. runs s (expect Token.RightCurly) z₁ (λ _ z₂. runs s (closeNode (e .body)) z₂ (λ n z₃. runs s (pushChild x₁ n) z₃ (λ x₁ z₄. runs s (closeNode x₁) z₄ k)))))))))
+          (on Token.LeftCurly xs (λ _ zs. bind (readStructBody (s .rows) (suc (length zs)) zs) (λ t ws. c (branch Node.StructBody 0 t) ws))
+          (bind (s .rows .expr false 0 xs) (λ t zs. on Token.LeftCurly zs (λ _ ws. bind (readStructBody (s .rows) (suc (length ws)) ws) (λ u vs. c (t ⊕ branch Node.StructBody 0 u) vs)) failed)))
+      go x u o f₁ true e = rw (on-yes Token.LeftCurly xs _ _ failed e) (body-rule w u k (λ t ws. c (node Node.StructBody (flags 0) t ▸ none) ws) x o f₁ (λ n v us ys d f₂ l. g n v _ ys d f₂ l))
+      go x u o f₁ false e =
+          rw (on-no Token.LeftCurly xs _ _ e, bind-try (s .rows .expr false 0 xs) _)
+          (try-rule s a u _ _ failed NoPostFixCurlyBrace f₁
+          (λ n v t ys d f₂ l. push-rule s w u v _ x n o d f₂ (λ y z o₁ f₃.
+          body-rule w z k (λ us vs. c (t ▸ (node Node.StructBody (flags 0) us ▸ none)) vs) y o₁ f₃ (λ m v₁ us zs d₁ f₄ l₁. g m v₁ _ zs d₁ f₄ (omega arith))))
+          (λ i. alloc-here s (moveTo i (u .row) u) _ Node.StructBody 0 f₁ (λ y v o₁ f₂. expect-miss s v _ Token.LeftCurly refl f₂ e)))
+
+  -- After `tuple`.
+  pub tuple-type-rule : {B : Type 0} {P : B → World → Outcome → Type 0} (w : World) (k : ℕ → World → Fate B) (c : Trees → List RowToken → Outcome) (start : ℕ) {xs : List RowToken} → Fits s w xs → After s a P w xs Node.TupleType 0 k c
+      → Sim P (runs s (parseTupleType start) w k) (on Token.LeftCurly xs (λ _ ys. bind (readList Token.RightCurly (s .rows) (suc (length ys)) ys) c) failed)
+  unfolding run parseTupleType _⊕_ isFlagged isName
+  tuple-type-rule w k c start f g =
+      alloc-rule s w _ start Node.TupleType 0 f (λ x u o f₁.
+      list-expect s a Token.RightCurly refl exprElement (readList Token.RightCurly (s .rows)) (expressions s a Token.RightCurly) w u _ c Token.LeftCurly x refl o f₁ (λ y z us ys o₁ f₂ l.
+      close-branch s w z k y o₁ refl f₂ (λ n v d f₃. g n v us ys d f₃ l)))
+
+  -- ---- struct literals
+
+  pub fields : Elements s a Token.RightCurly fieldAssign (readFields (s .rows))
+  unfolding run fieldAssign pushOption readFields branch _⊕_ isFlagged isName
+  fields m w u x h ts xs k o f g z = go (begins Token.Identifier xs) refl
+    where
+      go : (b : Bool) → begins Token.Identifier xs ≡ b → Sim (Made (Longer s a w h ts xs)) (runs s (fieldAssign x) u k) (readFields (s .rows) (suc m) xs)
+      go false e = rw (on-no Token.Identifier xs _ _ e) (check-is s u _ Token.Identifier refl f (λ i. rw e (z i)))
+      go true e =
+          check-is s u _ Token.Identifier refl f (λ i. rw e (
+          alloc-here s (moveTo i (u .row) u) _ Node.FieldAssign 0 f (λ y v o₁ f₁.
+          ident-rule s a v _ _ f₁
+          (λ n v₁ j ys d f₂ l. push-rule s (moveTo i (u .row) u) v v₁ _ y n o₁ d f₂ (λ y₁ v₂ o₂ f₃.
+          expect-rule s v₂ _ _ refl f₃ (λ j₁ row zs t.
+          expr-rule s a (moveTo (suc j₁) row v₂) _ _ AllowAll (t .fit) (λ n₁ v₃ t₁ ws d₁ f₄ l₁.
+          push-rule s (moveTo i (u .row) u) (moveTo (suc j₁) row v₂) v₃ _ y₁ n₁ o₂ d₁ f₄ (λ y₂ v₄ o₃ f₅.
+          close-branch s (moveTo i (u .row) u) v₄ _ y₂ o₃ refl f₅ (λ n₂ v₅ d₂ f₆.
+          push-rule s w u v₅ _ x n₂ o d₂ f₆ (λ x₁ v₆ o₄ f₇. g x₁ v₆ _ ws o₄ f₇ (omega (arith, t .shorter)))))))))
+          (λ q i₁. absurd (true≢false (sym e ∙ q))))))
