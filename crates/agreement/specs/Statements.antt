@@ -4,21 +4,53 @@ use mathlib.Core.Bool.{Bool, true, false}
 use mathlib.Core.Option.{Option}
 use mathlib.Core.Option as Option
 use mathlib.Core.List.{List, [], _∷_}
-use Prim.Native.Nat.{ℕ, zero, suc, _+_, _<_}
+use Prim.Native.Nat.{ℕ, zero, suc, _+_, _<_, _≤_}
 use native.Mathlib.Omega.{arith}
 use lib.ListN.{length}
 use Rattle.words.specs.Token
 use Rattle.words.specs.Node
 use Rattle.definition.specs.declared.Mode.the-variants.{AllowAll, NoPostFixCurlyBrace}
 use Rattle.definition.specs.declared.Unfinished.{Unfinished}
-use Rattle.definition.specs.Statements.{whileStmt, tryParseWhile}
-use Rattle.definition.specs.Abstract.{World, Fate, moveTo, ReadersA}
+use Rattle.definition.specs.Prog.{Prog, Then, Branch, Give}
+use Rattle.definition.specs.Tokens.{eat, expect}
+use Rattle.definition.specs.Nodes.{allocNodeFrom, closeNode, updateKind, pushChild, expectIdent}
+use Rattle.definition.specs.Expressions.{parseExpr}
+use Rattle.definition.specs.Statements.{whileStmt, tryParseWhile, letFlags, parseLetStmt}
+use Rattle.definition.specs.Abstract.{Node as Store, World, Fate, ok, moveTo, ReadersA}
 use Rattle.chart.specs.Row.{Lexeme, RowToken, token, begins}
-use Rattle.chart.specs.Tree.{flags, Tree, Trees, node, none, _▸_, _⊕_, branch}
-use Rattle.chart.specs.Parser.{Outcome, on, bind, failed}
+use Rattle.chart.specs.Tree as Tree
+use Rattle.chart.specs.Tree.{flags, Tree, Trees, node, none, _▸_, _⊕_, branch, flag}
+use Rattle.chart.specs.Parser as Chart
+use Rattle.chart.specs.Parser.{Outcome, on, bind, failed, readBindingName, readBinding}
 use Rattle.agreement.specs.Run.{run}
-use Rattle.agreement.specs.Sim.{Sim, Setting, runs, Fits, eat-rule, expect-rule}
-use Rattle.agreement.specs.Steps.{isFlagged, Done, Agrees, alloc-rule, push-rule, close-branch, expr-rule, here-rule}
+use Rattle.agreement.specs.Sim.{Sim, gives, Made, made, Setting, runs, Fits, eat-rule, expect-rule}
+use Rattle.agreement.specs.Steps.{isFlagged, Open, Done, Agrees, alloc-rule, push-rule, close-branch, update-rule, expr-rule, here-rule}
+use Rattle.agreement.specs.Leaves.{expect-ident-rule}
+use Rattle.tree.specs.Stored.{isName}
+use Rattle.tree.specs.Grown.{Built}
+
+-- The flags of a let are the chart's, and fit a payload.
+let-flags : (c m t : Bool) → letFlags c m t ≡ Tree.letFlags c m t
+unfolding flag
+let-flags true true true = refl
+let-flags true true false = refl
+let-flags true false true = refl
+let-flags true false false = refl
+let-flags false true true = refl
+let-flags false true false = refl
+let-flags false false true = refl
+let-flags false false false = refl
+
+let-flagged : (c m t : Bool) → isFlagged Node.LetStmt (letFlags c m t) ≡ true
+unfolding isFlagged isName
+let-flagged true true true = refl
+let-flagged true true false = refl
+let-flagged true false true = refl
+let-flagged true false false = refl
+let-flagged false true true = refl
+let-flagged false true false = refl
+let-flagged false false true = refl
+let-flagged false false false = refl
 
 module _ (s : Setting) (a : Agrees s) {B : Type 0} {P : B → World → Outcome → Type 0} where
   pub while-rule : (w : World) (k : ℕ → World → Fate B) (c : Trees → List RowToken → Outcome) (start kind : ℕ) {xs : List RowToken} → isFlagged kind 0 ≡ true → Fits s w xs
@@ -33,3 +65,56 @@ module _ (s : Setting) (a : Agrees s) {B : Type 0} {P : B → World → Outcome 
       push-rule s w u₁ v₁ _ x₁ m o₁ d₁ f₄ (λ x₂ u₂ o₂ f₅.
       close-branch s w u₂ k x₂ o₂ e f₅ (λ n₁ z d₂ f₆.
       h n₁ z _ zs d₂ f₆ (omega arith)))))))
+
+module _ (s : Setting) (a : Agrees s) where
+  -- One tree that was read.
+  pub data OneSince (st : List Store) (values : List ℕ) (xs : List RowToken) : ℕ → World → Trees → List RowToken → Type 0 where
+    one : {n : ℕ} {u : World} {t : Tree} {ys : List RowToken} → Built (s .text) (s .tokens) st values (u .store) (u .values) n t → Fits s u ys → length ys < length xs → OneSince st values xs n u (t ▸ none) ys
+
+  abbrev pub One : World → List RowToken → ℕ → World → Trees → List RowToken → Type 0
+  One w xs = OneSince (w .store) (w .values) xs
+
+  -- What `parse_let_stmt` does after `mut` was looked for, and after the type.
+  abbrev letEnd : Bool → Bool → Bool → Unfinished → Prog ℕ
+  letEnd comptime mutable typed x =
+      Then (updateKind x Node.LetStmt (letFlags comptime mutable typed)) (λ _. Then (expect Token.Equals) (λ _. Then (parseExpr AllowAll) (λ n. Then (pushChild x n) (λ y. Then (expect Token.Semicolon) (λ _. closeNode y)))))
+
+  abbrev letRest : ℕ → Bool → Bool → Prog ℕ
+  letRest start comptime mutable =
+      Then (allocNodeFrom start Node.LetStmt (letFlags comptime mutable false)) (λ x. Then expectIdent (λ n. Then (pushChild x n) (λ y. Then (eat Token.Colon) (λ typed.
+      Then (Branch typed (Then (parseExpr AllowAll) (λ n. pushChild y n)) (Give y)) (λ z. letEnd comptime mutable typed z)))))
+
+  -- The end of a let.
+  let-end : (w u : World) (x : Unfinished) (c m typed : Bool) (h : ℕ) (ts : Trees) (xs zs : List RowToken) → Open s w u x h 0 ts → Fits s u xs → length xs < length zs
+      → Sim (Made (One w zs)) (runs s (letEnd c m typed x) u ok)
+      (on Token.Equals xs (λ _ vs. bind (s .rows .expr true 0 vs) (λ t qs. on Token.Semicolon qs (λ _ rs. Chart.ok (branch Node.LetStmt (Tree.letFlags c m typed) (ts ⊕ t)) rs) failed)) failed)
+  unfolding run branch
+  let-end w u x c m typed h ts xs zs o f l =
+      update-rule s w u _ x Node.LetStmt (letFlags c m typed) o f (λ v o₁ f₁.
+      expect-rule s v _ _ refl f₁ (λ j row ys q.
+      expr-rule s a (moveTo (suc j) row v) _ _ AllowAll (q .fit) (λ n v₁ t ws d f₂ l₁.
+      push-rule s w (moveTo (suc j) row v) v₁ _ x n o₁ d f₂ (λ x₁ v₂ o₂ f₃.
+      expect-rule s v₂ _ _ refl f₃ (λ j₁ row₁ ys₁ q₁.
+      close-branch s w (moveTo (suc j₁) row₁ v₂) _ x₁ o₂ (let-flagged c m typed) (q₁ .fit) (λ n₁ z d₂ f₄.
+      gives (made (one (rw (let-flags c m typed) at d₂) f₄ (omega (arith, q .shorter, q₁ .shorter))))))))))
+
+  -- A let after `mut`, or where there is none.
+  let-rest : (w : World) (start : ℕ) (c m : Bool) (xs zs : List RowToken) → Fits s w xs → length xs ≤ length zs
+      → Sim (Made (One w zs)) (runs s (letRest start c m) w ok) (readBindingName (s .rows) c m xs)
+  unfolding run readBindingName _⊕_
+  let-rest w start c m xs zs f l =
+      alloc-rule s w _ start Node.LetStmt (letFlags c m false) f (λ x u o f₁.
+      expect-ident-rule s a u _ _ f₁ (λ n v j ys d f₂ l₁.
+      push-rule s w u v _ x n o d f₂ (λ y z o₁ f₃.
+      eat-rule s z _ _ refl f₃
+      (λ j₁ row qs q. expr-rule s a (moveTo (suc j₁) row z) _ _ AllowAll (q .fit) (λ n₁ v₁ t ws d₁ f₄ l₂.
+      push-rule s w (moveTo (suc j₁) row z) v₁ _ y n₁ o₁ d₁ f₄ (λ y₁ z₁ o₂ f₅.
+      let-end w z₁ y₁ c m true _ _ ws zs o₂ f₅ (omega (arith, q .shorter)))))
+      (λ _ i. let-end w (moveTo i (z .row) z) y c m false _ _ ys zs o₁ f₃ (omega arith)))))
+
+  -- A let statement.
+  pub let-agrees : (w : World) (start : ℕ) (c : Bool) (xs : List RowToken) → Fits s w xs → Sim (Made (One w xs)) (runs s (parseLetStmt start c) w ok) (readBinding (s .rows) c xs)
+  unfolding run parseLetStmt readBinding
+  let-agrees w start c xs f =
+      eat-rule s w _ _ refl f (λ j row ys q. let-rest (moveTo (suc j) row w) start c true ys xs (q .fit) (omega (arith, q .shorter)))
+      (λ _ i. let-rest (moveTo i (w .row) w) start c false xs xs f (omega arith))
