@@ -1,22 +1,24 @@
 -- Statements and blocks.
 use mathlib.Core.Path.{_≡_, refl, sym, _∙_, ap}
-use mathlib.Core.Bool.{Bool, true, false}
+use mathlib.Core.Bool.{Bool, true, false, _&&_}
 use mathlib.Core.Option.{Option}
 use mathlib.Core.Option as Option
-use mathlib.Core.List.{List, [], _∷_}
+use mathlib.Core.List.{List, [], _∷_, _++_}
 use Prim.Native.Nat.{ℕ, zero, suc, _+_, _<_, _≤_}
 use native.Mathlib.Omega.{arith}
-use lib.ListN.{length}
+use lib.ListN.{length, length-append, List·getD-append}
 use Rattle.words.specs.Token
 use Rattle.words.specs.Node
+use Rattle.words.specs.Words.{nodeHead}
 use Rattle.definition.specs.declared.Mode.the-variants.{AllowAll, NoPostFixCurlyBrace}
 use Rattle.definition.specs.declared.Unfinished.{Unfinished}
 use Rattle.definition.specs.Prog.{Prog, Then, Branch, Give}
 use Rattle.definition.specs.Tokens.{eat, expect}
 use Rattle.definition.specs.Nodes.{allocNodeFrom, closeNode, updateKind, pushChild, expectIdent}
 use Rattle.definition.specs.Expressions.{parseExpr}
-use Rattle.definition.specs.Statements.{whileStmt, tryParseWhile, letFlags, parseLetStmt}
-use Rattle.definition.specs.Abstract.{Node as Store, World, Fate, ok, moveTo, ReadersA}
+use Rattle.definition.specs.Statements.{StmtResult, statement, whileStmt, tryParseWhile, letFlags, parseLetStmt, returnStmt, assignStmt}
+use Rattle.definition.specs.Abstract.{Node as Store, noNode, newNode, World, Fate, ok, moveTo, withStore, withLink, ReadersA}
+use Rattle.definition.specs.Encodes.{adopted-length}
 use Rattle.chart.specs.Row.{Lexeme, RowToken, token, begins}
 use Rattle.chart.specs.Tree as Tree
 use Rattle.chart.specs.Tree.{flags, Tree, Trees, node, none, _▸_, _⊕_, branch, flag}
@@ -27,7 +29,7 @@ use Rattle.agreement.specs.Sim.{Sim, gives, Made, made, Setting, runs, F
 use Rattle.agreement.specs.Steps.{isFlagged, Open, Done, Agrees, alloc-rule, push-rule, close-branch, update-rule, expr-rule, here-rule}
 use Rattle.agreement.specs.Leaves.{expect-ident-rule}
 use Rattle.tree.specs.Stored.{isName}
-use Rattle.tree.specs.Grown.{Built}
+use Rattle.tree.specs.Grown.{size, Built, Waiting, opened, waits, adopt}
 
 -- The flags of a let are the chart's, and fit a payload.
 let-flags : (c m t : Bool) → letFlags c m t ≡ Tree.letFlags c m t
@@ -51,6 +53,38 @@ let-flagged false true true = refl
 let-flagged false true false = refl
 let-flagged false false true = refl
 let-flagged false false false = refl
+
+both : (a b : Bool) → a ≡ true → b ≡ true → (a && b) ≡ true
+both a b e f = rw (e, f)
+
+module _ (s : Setting) where
+  -- A tree that waits to be linked to an open node.
+  abbrev pub Waits : World → World → Unfinished → ℕ → Tree → Type 0
+  Waits w u x c t = Waiting (s .text) (s .tokens) (w .store) (u .store) (u .values) (x .node) c t
+
+  module _ {B : Type 0} {P : B → World → Outcome → Type 0} where
+    -- A node is opened after a tree was read that is to be its child.
+    alloc-after : (w v : World) (k : Unfinished → World → Fate B) (start kind payload n : ℕ) {t : Tree} {xs : List RowToken} {o : Outcome} → Done s w v n t → Fits s v xs
+        → ((x : Unfinished) (u : World) → x .last ≡ 0 → Open s w u x (nodeHead kind payload) (size t) none → Waits w u x n t → Fits s u xs → Sim P (k x u) o)
+        → Sim P (runs s (allocNodeFrom start kind payload) v k) o
+    unfolding run allocNodeFrom
+    alloc-after w v k start kind payload n {t} d f h =
+        let new = newNode start kind payload in
+        let st = v .store ++ (new ∷ []) in
+        let z : length st ≡ length (v .store) + 1 = length-append (v .store) (new ∷ []) in
+        h (record { node = length (v .store); last = 0 }) (withStore st v) refl
+        (opened (s .text) (s .tokens) (v .store) (v .values) new (d .size-is) (d .old) (d .says) refl refl)
+        (waits (s .text) (s .tokens) (omega arith) d (omega (arith, z)) (λ i l. List·getD-append (v .store) (new ∷ []) noNode i (omega arith)) (λ i q y e. e) (omega arith))
+        (record { ahead = f .ahead; room = f .room; few = f .few; born = omega (arith, z, f .born); sound = f .sound })
+
+    -- A tree that waits is linked.
+    adopt-rule : (w u : World) (k : Unfinished → World → Fate B) (x : Unfinished) (c r : ℕ) {h waiting : ℕ} {t : Tree} {ts : Trees} {xs : List RowToken} {o : Outcome} → Open s w u x h waiting ts → waiting ≡ size t + r → Waits w u x c t → x .last < c → Fits s u xs
+        → (Open s w (withLink (x .node) (x .last) c u) (record { node = x .node; last = c }) h r (ts ⊕ (t ▸ none)) → Fits s (withLink (x .node) (x .last) c u) xs → Sim P (k (record { node = x .node; last = c }) (withLink (x .node) (x .last) c u)) o)
+        → Sim P (runs s (pushChild x c) u k) o
+    unfolding run pushChild
+    adopt-rule w u k x c r {t = t} g e b l f h =
+        let (p, m) = adopt (s .text) (s .tokens) {u = r} (rw e at g) b l in
+        h p (record { ahead = f .ahead; room = f .room; few = f .few; born = rw (adopted-length (x .node) c (u .store)) (f .born); sound = both _ _ (f .sound) m })
 
 module _ (s : Setting) (a : Agrees s) {B : Type 0} {P : B → World → Outcome → Type 0} where
   pub while-rule : (w : World) (k : ℕ → World → Fate B) (c : Trees → List RowToken → Outcome) (start kind : ℕ) {xs : List RowToken} → isFlagged kind 0 ≡ true → Fits s w xs
@@ -118,3 +152,31 @@ module _ (s : Setting) (a : Agrees s) where
   let-agrees w start c xs f =
       eat-rule s w _ _ refl f (λ j row ys q. let-rest (moveTo (suc j) row w) start c true ys xs (q .fit) (omega (arith, q .shorter)))
       (λ _ i. let-rest (moveTo i (w .row) w) start c false xs xs f (omega arith))
+
+module _ (s : Setting) (a : Agrees s) {B : Type 0} {P : B → World → Outcome → Type 0} where
+  -- A return statement.
+  pub return-rule : (w : World) (k : StmtResult → World → Fate B) (c : Trees → List RowToken → Outcome) (start : ℕ) {xs : List RowToken} → Fits s w xs
+      → ((n : ℕ) (u : World) (t : Tree) (ys : List RowToken) → Done s w u n t → Fits s u ys → length ys < length xs → Sim P (k (statement n) u) (c (t ▸ none) ys))
+      → Sim P (runs s (returnStmt start) w k) (bind (s .rows .expr true 0 xs) (λ t zs. on Token.Semicolon zs (λ _ ws. c (branch Node.ReturnStmt 0 t) ws) failed))
+  unfolding run returnStmt branch _⊕_ isFlagged isName
+  return-rule w k c start f h =
+      alloc-rule s w _ start Node.ReturnStmt 0 f (λ x u o f₁.
+      expr-rule s a u _ _ AllowAll f₁ (λ n v t ys d f₂ l.
+      push-rule s w u v _ x n o d f₂ (λ x₁ u₁ o₁ f₃.
+      expect-rule s u₁ _ _ refl f₃ (λ j row zs q.
+      close-branch s w (moveTo (suc j) row u₁) _ x₁ o₁ refl (q .fit) (λ n₁ z d₂ f₄.
+      h n₁ z _ zs d₂ f₄ (omega (arith, q .shorter)))))))
+
+  -- An assignment, its left side read.
+  pub assign-rule : (w v : World) (k : StmtResult → World → Fate B) (c : Trees → List RowToken → Outcome) (start n : ℕ) {t : Tree} {xs : List RowToken} → 0 < length (w .store) → Done s w v n t → Fits s v xs
+      → ((m : ℕ) (u : World) (r : Tree) (ys : List RowToken) → Done s w u m r → Fits s u ys → length ys < length xs → Sim P (k (statement m) u) (c (r ▸ none) ys))
+      → Sim P (runs s (assignStmt start n) v k) (bind (s .rows .expr true 0 xs) (λ u ws. on Token.Semicolon ws (λ _ vs. c (branch Node.AssignStmt 0 ((t ▸ none) ⊕ u)) vs) failed))
+  unfolding run assignStmt branch _⊕_ isFlagged isName
+  assign-rule w v k c start n {t} born d f h =
+      alloc-after s w v _ start Node.AssignStmt 0 n d f (λ x u e o q f₁.
+      adopt-rule s w u _ x n 0 o (omega arith) q (omega (arith, e, d .low)) f₁ (λ o₁ f₂.
+      expr-rule s a (withLink (x .node) (x .last) n u) _ _ AllowAll f₂ (λ n₁ v₁ t₁ ys d₁ f₃ l.
+      push-rule s w (withLink (x .node) (x .last) n u) v₁ _ (record { node = x .node; last = n }) n₁ o₁ d₁ f₃ (λ x₁ u₁ o₂ f₄.
+      expect-rule s u₁ _ _ refl f₄ (λ j row zs q₁.
+      close-branch s w (moveTo (suc j) row u₁) _ x₁ o₂ refl (q₁ .fit) (λ n₂ z d₂ f₅.
+      h n₂ z _ zs d₂ f₅ (omega (arith, q₁ .shorter))))))))
