@@ -1,35 +1,39 @@
 -- Statements and blocks.
 use mathlib.Core.Path.{_≡_, refl, sym, _∙_, ap}
-use mathlib.Core.Bool.{Bool, true, false, _&&_}
+use mathlib.Core.Bool.{Bool, true, false, not, _&&_, _||_, true≢false}
 use mathlib.Core.Option.{Option}
 use mathlib.Core.Option as Option
 use mathlib.Core.List.{List, [], _∷_, _++_}
-use Prim.Native.Nat.{ℕ, zero, suc, _+_, _<_, _≤_}
+use Prim.Native.Nat.{ℕ, zero, suc, _+_, _*_, _<_, _≤_}
 use native.Mathlib.Omega.{arith}
+use borrow.Author.Tests.{lt-ltb, le-leb, le-ltb, eqb-true}
+use lib.Dec.{eqb}
 use lib.ListN.{length, length-append, List·getD-append}
 use Rattle.words.specs.Token
 use Rattle.words.specs.Node
-use Rattle.words.specs.Words.{nodeHead}
+use Rattle.words.specs.Words.{nodeKind, nodeHead}
 use Rattle.definition.specs.declared.Mode.the-variants.{AllowAll, NoPostFixCurlyBrace}
 use Rattle.definition.specs.declared.Unfinished.{Unfinished}
-use Rattle.definition.specs.Prog.{Prog, Then, Branch, Give}
-use Rattle.definition.specs.Tokens.{eat, expect}
+use Rattle.definition.specs.Prog.{Prog, Then, Branch, Give, headWord, kindOf}
+use Rattle.definition.specs.Tokens.{contains, eat, expect}
 use Rattle.definition.specs.Nodes.{allocNodeFrom, closeNode, updateKind, pushChild, expectIdent}
-use Rattle.definition.specs.Expressions.{parseExpr}
-use Rattle.definition.specs.Statements.{StmtResult, statement, whileStmt, tryParseWhile, letFlags, parseLetStmt, returnStmt, assignStmt}
-use Rattle.definition.specs.Abstract.{Node as Store, noNode, newNode, World, Fate, ok, moveTo, withStore, withLink, ReadersA}
+use Rattle.definition.specs.Expressions.{tryParseExpr, parseExpr}
+use Rattle.definition.specs.Statements as Statements
+use Rattle.definition.specs.Statements.{StmtResult, statement, endExprOrStmt, endExpr, requiresSemi, exprStmt, whileStmt, tryParseWhile, letFlags, parseLetStmt, returnStmt, assignStmt}
+use Rattle.definition.specs.Abstract.{Node as Store, noNode, nodeAt, wordIn, newNode, World, Fate, ok, bindA, moveTo, withStore, withLink, ReadersA}
 use Rattle.definition.specs.Encodes.{adopted-length}
 use Rattle.chart.specs.Row.{Lexeme, RowToken, token, begins}
 use Rattle.chart.specs.Tree as Tree
-use Rattle.chart.specs.Tree.{flags, Tree, Trees, node, none, _▸_, _⊕_, branch, flag}
+use Rattle.chart.specs.Tree.{Value, flags, Tree, Trees, node, none, _▸_, _⊕_, branch, listed, flag}
+use Rattle.chart.specs.Chart.{isBlockLike}
 use Rattle.chart.specs.Parser as Chart
-use Rattle.chart.specs.Parser.{Outcome, on, bind, failed, readBindingName, readBinding}
+use Rattle.chart.specs.Parser.{Outcome, if, on, bind, failed, readBindingName, readBinding, readExpression}
 use Rattle.agreement.specs.Run.{run}
-use Rattle.agreement.specs.Sim.{Sim, gives, Made, made, Setting, runs, Fits, eat-rule, expect-rule}
-use Rattle.agreement.specs.Steps.{isFlagged, Open, Done, Agrees, alloc-rule, push-rule, close-branch, update-rule, expr-rule, here-rule}
+use Rattle.agreement.specs.Sim.{Sim, gives, fails, sinks, Made, made, call, Setting, runs, Fits, eat-rule, expect-rule}
+use Rattle.agreement.specs.Steps.{Ranked, Found, found, not-found, isFlagged, rootKind, isOdd, Open, Done, Agrees, alloc-rule, push-rule, close-branch, update-rule, expr-rule, here-rule}
 use Rattle.agreement.specs.Leaves.{expect-ident-rule}
 use Rattle.tree.specs.Stored.{isName}
-use Rattle.tree.specs.Grown.{size, Built, Waiting, opened, waits, adopt}
+use Rattle.tree.specs.Grown.{size, Is, is, Built, Waiting, opened, waits, adopt}
 
 -- The flags of a let are the chart's, and fit a payload.
 let-flags : (c m t : Bool) → letFlags c m t ≡ Tree.letFlags c m t
@@ -54,6 +58,34 @@ let-flagged false true false = refl
 let-flagged false false true = refl
 let-flagged false false false = refl
 
+-- A row begins with a token of a kind, or it doesn't.
+on-either : {A : Type 0} {P : A → World → Outcome → Type 0} (f : Fate A) (K : ℕ) (xs : List RowToken) (h : Lexeme → List RowToken → Outcome) (m : Outcome)
+    → ((v : Lexeme) (ys : List RowToken) → xs ≡ token K v ∷ ys → Sim P f (h v ys)) → (begins K xs ≡ false → Sim P f m) → Sim P f (on K xs h m)
+unfolding on if begins
+on-either f K [] h m hit miss = miss refl
+on-either {P = P} f K (token kind v ∷ xs) h m hit miss = go (eqb kind K) refl
+  where
+    go : (b : Bool) → eqb kind K ≡ b → Sim P f (if b (h v xs) m)
+    go true e = hit v xs (ap (λ (n : ℕ). token n v ∷ xs) (eqb-true kind K e))
+    go false e = miss e
+
+-- An expression needs a `;` as a statement unless it is like a block, but for the odd kinds.
+semi-same : (kind : ℕ) (v : Value) (ts us : Trees) → isOdd kind ≡ false → requiresSemi kind ≡ not (isBlockLike (node kind v ts ▸ us))
+unfolding isOdd requiresSemi contains isBlockLike
+semi-same kind v ts us e = go (eqb kind Node.ComptimeBlock) (eqb kind Node.Error) (eqb kind Node.Block) (eqb kind Node.If) (eqb kind Node.Match) e
+  where
+    go : (a b c d f : Bool) → (a || b) ≡ false → not (a || (c || (d || (f || (b || false))))) ≡ not (c || (d || f))
+    go true b c d f q = absurd (true≢false q)
+    go false true c d f q = absurd (true≢false q)
+    go false false true d f q = refl
+    go false false false true f q = refl
+    go false false false false true q = refl
+    go false false false false false q = refl
+
+-- Any expression, in both.
+no-priority : Ranked 0 0
+no-priority = record { below = refl; same = λ j. rw (le-leb 0 j (omega arith), le-ltb (2 * j + 1) 0 (omega arith)) }
+
 both : (a b : Bool) → a ≡ true → b ≡ true → (a && b) ≡ true
 both a b e f = rw (e, f)
 
@@ -61,6 +93,14 @@ module _ (s : Setting) where
   -- A tree that waits to be linked to an open node.
   abbrev pub Waits : World → World → Unfinished → ℕ → Tree → Type 0
   Waits w u x c t = Waiting (s .text) (s .tokens) (w .store) (u .store) (u .values) (x .node) c t
+
+  -- The kind of a node that was read.
+  kind-read : (w u : World) (n : ℕ) (t : Tree) → Done s w u n t → nodeKind (wordIn n headWord (u .store)) ≡ rootKind t
+  unfolding rootKind
+  kind-read w u n (node kind v ts) d = rw (lt-ltb n (length (u .store)) (d .high)) (go (d .tree))
+    where
+      go : {Q : ℕ → Type 0} → Is (s .text) (s .tokens) (u .store) (u .values) Q n (node kind v ts) → nodeKind (nodeAt (u .store) n .head) ≡ kind
+      go (is p q r m) = q
 
   module _ {B : Type 0} {P : B → World → Outcome → Type 0} where
     -- A node is opened after a tree was read that is to be its child.
@@ -180,3 +220,78 @@ module _ (s : Setting) (a : Agrees s) {B : Type 0} {P : B → World → Outcome 
       expect-rule s u₁ _ _ refl f₄ (λ j row zs q₁.
       close-branch s w (moveTo (suc j) row u₁) _ x₁ o₂ refl (q₁ .fit) (λ n₂ z d₂ f₅.
       h n₂ z _ zs d₂ f₅ (omega (arith, q₁ .shorter))))))))
+
+  pub let-rule : (w : World) (k : ℕ → World → Fate B) (c : Trees → List RowToken → Outcome) (start : ℕ) (comptime : Bool) (xs : List RowToken) → Fits s w xs
+      → ((n : ℕ) (u : World) (t : Tree) (ys : List RowToken) → Done s w u n t → Fits s u ys → length ys < length xs → Sim P (k n u) (c (t ▸ none) ys))
+      → Sim P (runs s (parseLetStmt start comptime) w k) (bind (readBinding (s .rows) comptime xs) c)
+  let-rule w k c start comptime xs f h = call s (parseLetStmt start comptime) w k c (let-agrees s a w start comptime xs f) go
+    where
+      go : (n : ℕ) (u : World) (ts : Trees) (ys : List RowToken) → One s a w xs n u ts ys → Sim P (k n u) (c ts ys)
+      go n u ts ys (one {t = t} d g l) = h n u t ys d g l
+
+module _ (s : Setting) where
+  -- What `try_parse_stmt` comes to, where the chart goes on after a statement with `c`: a statement; an expression that may close the block or
+  -- be a statement; one that has to close it; nothing. The chart has looked for the `}` by then.
+  pub data StatedSince (st : List Store) (values : List ℕ) (xs : List RowToken) (c : Trees → List RowToken → Outcome) : StmtResult → World → Outcome → Type 0 where
+    stated : {n : ℕ} {u : World} {t : Tree} {ys : List RowToken} → Built (s .text) (s .tokens) st values (u .store) (u .values) n t → Fits s u ys → length ys < length xs
+        → StatedSince st values xs c (statement n) u (c (t ▸ none) ys)
+    goes-on : {n : ℕ} {u : World} {t : Tree} {ys : List RowToken} → Built (s .text) (s .tokens) st values (u .store) (u .values) n t → Fits s u ys → length ys < length xs → begins Token.RightCurly ys ≡ false
+        → StatedSince st values xs c (endExprOrStmt n) u (c (t ▸ none) ys)
+    may-close : {n : ℕ} {u : World} {t : Tree} {v : Lexeme} {ys : List RowToken} → Built (s .text) (s .tokens) st values (u .store) (u .values) n t → Fits s u (token Token.RightCurly v ∷ ys) → length ys < length xs
+        → StatedSince st values xs c (endExprOrStmt n) u (Chart.ok (listed Node.StatementsList none (t ▸ none)) ys)
+    closes : {n : ℕ} {u : World} {t : Tree} {v : Lexeme} {ys : List RowToken} → Built (s .text) (s .tokens) st values (u .store) (u .values) n t → Fits s u (token Token.RightCurly v ∷ ys) → length ys < length xs
+        → StatedSince st values xs c (endExpr n) u (Chart.ok (listed Node.StatementsList none (t ▸ none)) ys)
+    unclosed : {n : ℕ} {u : World} {t : Tree} {ys : List RowToken} → Built (s .text) (s .tokens) st values (u .store) (u .values) n t → Fits s u ys → begins Token.RightCurly ys ≡ false
+        → StatedSince st values xs c (endExpr n) u failed
+    not-stated : {u : World} → Fits s u xs → StatedSince st values xs c Statements.nothing u failed
+
+  abbrev pub Stated : World → List RowToken → (Trees → List RowToken → Outcome) → StmtResult → World → Outcome → Type 0
+  Stated w xs c = StatedSince (w .store) (w .values) xs c
+
+  -- The end of an expression that neither `=` nor `;` follows.
+  abbrev endOf : ℕ → Prog StmtResult
+  endOf n = Then (kindOf n) (λ kind. Branch (requiresSemi kind) (Give (endExpr n)) (Give (endExprOrStmt n)))
+
+module _ (s : Setting) (a : Agrees s) {B : Type 0} {P : B → World → Outcome → Type 0} where
+  -- What ends an expression beside the chart's look at `}`.
+  end-rule : (w u : World) (k : StmtResult → World → Fate B) (c : Trees → List RowToken → Outcome) (n : ℕ) (t : Tree) (xs ys : List RowToken) → Done s w u n t → isOdd (rootKind t) ≡ false → Fits s u ys → length ys < length xs
+      → ((r : StmtResult) (v : World) (o : Outcome) → Stated s w xs c r v o → Sim P (k r v) o)
+      → Sim P (runs s (endOf s n) u k) (on Token.RightCurly ys (λ _ zs. Chart.ok (listed Node.StatementsList none (t ▸ none)) zs) (if (isBlockLike (t ▸ none)) (c (t ▸ none) ys) failed))
+  unfolding run rootKind if
+  end-rule w u k c n (node kind v ts) xs ys d e f l h =
+      let z : requiresSemi (nodeKind (wordIn n headWord (u .store))) ≡ not (isBlockLike (node kind v ts ▸ none)) = rw (kind-read s w u n (node kind v ts) d) (semi-same kind v ts none e) in
+      rw z (on-either _ Token.RightCurly ys _ _ (λ v₁ zs q. hit v₁ zs q (isBlockLike (node kind v ts ▸ none))) (λ q. miss q (isBlockLike (node kind v ts ▸ none))))
+    where
+      hit : (y : Lexeme) (zs : List RowToken) → ys ≡ token Token.RightCurly y ∷ zs → (b : Bool)
+          → Sim P (elim (not b) [ true ↦ k (endExpr n) u | false ↦ k (endExprOrStmt n) u ]) (Chart.ok (listed Node.StatementsList none (node kind v ts ▸ none)) zs)
+      hit y zs q true = h _ _ _ (may-close d (rw q at f) (let e : length ys ≡ suc (length zs) = ap length q in omega arith))
+      hit y zs q false = h _ _ _ (closes d (rw q at f) (let e : length ys ≡ suc (length zs) = ap length q in omega arith))
+
+      miss : begins Token.RightCurly ys ≡ false → (b : Bool) → Sim P (elim (not b) [ true ↦ k (endExpr n) u | false ↦ k (endExprOrStmt n) u ]) (if b (c (node kind v ts ▸ none) ys) failed)
+      miss q true = h _ _ _ (goes-on d f l q)
+      miss q false = h _ _ _ (unclosed d f q)
+
+  -- An expression at the start of a statement, and what follows it.
+  expr-stmt : (w : World) (k : StmtResult → World → Fate B) (c : Trees → List RowToken → Outcome) (start : ℕ) (xs : List RowToken) → Fits s w xs → begins Token.Comptime xs ≡ false
+      → ((r : StmtResult) (v : World) (o : Outcome) → Stated s w xs c r v o → Sim P (k r v) o)
+      → Sim P (runs s (exprStmt start) w k) (readExpression (s .rows) xs c)
+  unfolding run exprStmt readExpression tryParseExpr bind
+  expr-stmt w k c start xs f e h = go (a .exprs AllowAll 0 0 w xs no-priority f)
+    where
+      go : {v : Fate (Option ℕ)} {o : Outcome} → Sim (Found s w xs) v o → Sim P (bindA v (λ found u. runs s (elim found [
+        | Option.none ↦ Give Statements.nothing
+        | Option.some n ↦ Then (eat Token.Equals) (λ b. Branch b (assignStmt start n) (Then (eat Token.Semicolon) (λ b′. Branch b′ (Give (statement n)) (endOf s n))))
+      ]) u k)) (bind o (λ t ys.
+          on Token.Equals ys (λ _ zs. bind (s .rows .expr true 0 zs) (λ u ws. on Token.Semicolon ws (λ _ vs. c (branch Node.AssignStmt 0 (t ⊕ u)) vs) failed))
+          (on Token.Semicolon ys (λ _ zs. c t zs)
+          (on Token.RightCurly ys (λ _ zs. Chart.ok (listed Node.StatementsList none t) zs)
+          (if (isBlockLike t) (c t ys) failed)))))
+      go (gives (found {n} {u} {t} {ys} d g l odd)) =
+          eat-rule s u _ _ refl g
+          (λ j row zs q. assign-rule s a w (moveTo (suc j) row u) k c start n (f .born) d (q .fit) (λ m v r ws d₁ f₁ l₁. h _ _ _ (stated d₁ f₁ (omega (arith, q .shorter)))))
+          (λ _ i. eat-rule s (moveTo i (u .row) u) _ _ refl g
+          (λ j row zs q. h _ _ _ (stated d (q .fit) (omega (arith, q .shorter))))
+          (λ _ i₁. end-rule w (moveTo i₁ (u .row) u) k c n t xs ys d (odd e) g l h))
+      go (gives (not-found i)) = h _ _ _ (not-stated f)
+      go fails = fails
+      go sinks = sinks
