@@ -17,9 +17,9 @@ use Rattle.definition.specs.declared.Unfinished.{Unfinished}
 use Rattle.definition.specs.Prog.{Prog, Then, Branch, Give, headWord, kindOf}
 use Rattle.definition.specs.Tokens.{contains, eat, expect}
 use Rattle.definition.specs.Nodes.{allocNodeFrom, closeNode, updateKind, pushChild, expectIdent}
-use Rattle.definition.specs.Expressions.{tryParseExpr, parseExpr}
+use Rattle.definition.specs.Expressions.{eats, tryParseExpr, parseExpr}
 use Rattle.definition.specs.Statements as Statements
-use Rattle.definition.specs.Statements.{StmtResult, statement, endExprOrStmt, endExpr, requiresSemi, exprStmt, whileStmt, tryParseWhile, letFlags, parseLetStmt, returnStmt, assignStmt}
+use Rattle.definition.specs.Statements.{StmtResult, statement, endExprOrStmt, endExpr, requiresSemi, tryParseStmt, comptimeStmt, letStmt, exprStmt, whileStmt, tryParseWhile, letFlags, parseLetStmt, returnStmt, assignStmt}
 use Rattle.definition.specs.Abstract.{Node as Store, noNode, nodeAt, wordIn, newNode, World, Fate, ok, bindA, moveTo, withStore, withLink, ReadersA}
 use Rattle.definition.specs.Encodes.{adopted-length}
 use Rattle.chart.specs.Row.{Lexeme, RowToken, token, begins}
@@ -27,10 +27,10 @@ use Rattle.chart.specs.Tree as Tree
 use Rattle.chart.specs.Tree.{Value, flags, Tree, Trees, node, none, _▸_, _⊕_, branch, listed, flag}
 use Rattle.chart.specs.Chart.{isBlockLike}
 use Rattle.chart.specs.Parser as Chart
-use Rattle.chart.specs.Parser.{Outcome, if, on, bind, failed, readBindingName, readBinding, readExpression}
+use Rattle.chart.specs.Parser.{Outcome, if, on, bind, failed, readBindingName, readBinding, readExpression, readComptime, readStatement}
 use Rattle.agreement.specs.Run.{run}
-use Rattle.agreement.specs.Sim.{Sim, gives, fails, sinks, Made, made, call, Setting, runs, Fits, eat-rule, expect-rule}
-use Rattle.agreement.specs.Steps.{Ranked, Found, found, not-found, isFlagged, rootKind, isOdd, Open, Done, Agrees, alloc-rule, push-rule, close-branch, update-rule, expr-rule, here-rule}
+use Rattle.agreement.specs.Sim.{Sim, gives, fails, sinks, Made, made, call, Setting, runs, Fits, eat-rule, check-hit, check-miss, expect-rule, unexpected-rule}
+use Rattle.agreement.specs.Steps.{Ranked, Found, found, not-found, isFlagged, rootKind, isOdd, Open, Done, Agrees, alloc-rule, push-rule, close-branch, update-rule, expr-rule, block-rule, here-rule}
 use Rattle.agreement.specs.Leaves.{expect-ident-rule}
 use Rattle.tree.specs.Stored.{isName}
 use Rattle.tree.specs.Grown.{size, Is, is, Built, Waiting, opened, waits, adopt}
@@ -68,6 +68,19 @@ on-either {P = P} f K (token kind v ∷ xs) h m hit miss = go (eqb kind K) refl
     go : (b : Bool) → eqb kind K ≡ b → Sim P f (if b (h v xs) m)
     go true e = hit v xs (ap (λ (n : ℕ). token n v ∷ xs) (eqb-true kind K e))
     go false e = miss e
+
+data Begun (K : ℕ) : List RowToken → Type 0 where
+  here : (v : Lexeme) (ys : List RowToken) → Begun K (token K v ∷ ys)
+  nowhere : {xs : List RowToken} → begins K xs ≡ false → Begun K xs
+
+begun : (K : ℕ) (xs : List RowToken) → Begun K xs
+unfolding begins
+begun K [] = nowhere refl
+begun K (token kind v ∷ xs) = go (eqb kind K) refl
+  where
+    go : (b : Bool) → eqb kind K ≡ b → Begun K (token kind v ∷ xs)
+    go true e = rw (eqb-true kind K e) (here v xs)
+    go false e = nowhere e
 
 -- An expression needs a `;` as a statement unless it is like a block, but for the odd kinds.
 semi-same : (kind : ℕ) (v : Value) (ts us : Trees) → isOdd kind ≡ false → requiresSemi kind ≡ not (isBlockLike (node kind v ts ▸ us))
@@ -295,3 +308,57 @@ module _ (s : Setting) (a : Agrees s) {B : Type 0} {P : B → World → Outcome 
       go (gives (not-found i)) = h _ _ _ (not-stated f)
       go fails = fails
       go sinks = sinks
+
+  -- `comptime` and a block.
+  comptime-block : (w : World) (k : StmtResult → World → Fate B) (c : Trees → List RowToken → Outcome) (start : ℕ) (v : Lexeme) (xs zs : List RowToken) → Fits s w (token Token.LeftCurly v ∷ zs) → suc (length zs) ≤ length xs
+      → ((r : StmtResult) (u : World) (o : Outcome) → Stated s w xs c r u o → Sim P (k r u) o)
+      → Sim P (runs s (comptimeStmt start) w k) (readComptime (s .rows) (token Token.LeftCurly v ∷ zs) c)
+  unfolding run comptimeStmt readComptime on if begins branch isFlagged isName
+  comptime-block w k c start v xs zs f l h =
+      check-hit s w _ f refl (λ i.
+      block-rule s a (moveTo i (w .row) w) _ _ start Node.ComptimeBlock refl f (λ n u ts ys d f₁ l₁.
+      eat-rule s u _ _ refl f₁
+      (λ j row ws q. h _ _ _ (stated d (q .fit) (omega (arith, q .shorter))))
+      (λ _ i₁. on-either _ Token.RightCurly ys _ _
+      (λ y ws q. h _ _ _ (may-close d (rw q at f₁) (let e : length ys ≡ suc (length ws) = ap length q in omega arith)))
+      (λ q. h _ _ _ (goes-on d f₁ (omega arith) q)))))
+
+  -- `comptime` and no block.
+  comptime-other : (w : World) (k : StmtResult → World → Fate B) (c : Trees → List RowToken → Outcome) (start : ℕ) (xs zs : List RowToken) → Fits s w zs → length zs ≤ length xs → begins Token.LeftCurly zs ≡ false
+      → ((r : StmtResult) (u : World) (o : Outcome) → Stated s w xs c r u o → Sim P (k r u) o)
+      → Sim P (runs s (comptimeStmt start) w k) (readComptime (s .rows) zs c)
+  unfolding run comptimeStmt readComptime letStmt if
+  comptime-other w k c start xs zs f l e h =
+      check-miss s w _ Token.LeftCurly refl f e (λ i.
+      eat-rule s (moveTo i (w .row) w) _ _ refl f
+      (λ j row ws q. let-rule s a (moveTo (suc j) row w) _ _ start true ws (q .fit) (λ n u t vs d f₁ l₁. h _ _ _ (stated d f₁ (omega (arith, q .shorter)))))
+      (λ _ i₁. rw e (unexpected-rule s (moveTo i₁ (w .row) w) _ f)))
+
+  -- What follows `comptime`.
+  comptime-rule : (w : World) (k : StmtResult → World → Fate B) (c : Trees → List RowToken → Outcome) (start : ℕ) (xs ys : List RowToken) → Fits s w ys → length ys ≤ length xs
+      → ((r : StmtResult) (u : World) (o : Outcome) → Stated s w xs c r u o → Sim P (k r u) o)
+      → Sim P (runs s (comptimeStmt start) w k) (readComptime (s .rows) ys c)
+  comptime-rule w k c start xs ys f l h = go ys f l (begun Token.LeftCurly ys)
+    where
+      go : (zs : List RowToken) → Fits s w zs → length zs ≤ length xs → Begun Token.LeftCurly zs → Sim P (runs s (comptimeStmt start) w k) (readComptime (s .rows) zs c)
+      go zs g m (here v ws) = comptime-block w k c start v xs ws g m h
+      go zs g m (nowhere e) = comptime-other w k c start xs zs g m e h
+
+  -- A statement, or an expression that may close the block.
+  pub stmt-rule : (w : World) (k : StmtResult → World → Fate B) (c : Trees → List RowToken → Outcome) (xs : List RowToken) → Fits s w xs
+      → ((r : StmtResult) (u : World) (o : Outcome) → Stated s w xs c r u o → Sim P (k r u) o)
+      → Sim P (runs s tryParseStmt w k) (readStatement (s .rows) xs c)
+  unfolding run tryParseStmt tryParseWhile eats letStmt readStatement isFlagged isName
+  stmt-rule w k c xs f h =
+      eat-rule s w _ _ refl f
+      (λ j row ys q. expect-rule s (moveTo (suc j) row w) _ _ refl (q .fit)
+      (λ j₁ row₁ zs q₁. while-rule s a (moveTo (suc j₁) row₁ w) _ c (w .at) Node.InlineWhileStmt refl (q₁ .fit) (λ n u t vs d f₁ l. h _ _ _ (stated d f₁ (omega (arith, q .shorter, q₁ .shorter))))))
+      (λ _ i. eat-rule s (moveTo i (w .row) w) _ _ refl f
+      (λ j row ys q. while-rule s a (moveTo (suc j) row w) _ c (w .at) Node.WhileStmt refl (q .fit) (λ n u t vs d f₁ l. h _ _ _ (stated d f₁ (omega (arith, q .shorter)))))
+      (λ _ i₁. eat-rule s (moveTo i₁ (w .row) w) _ _ refl f
+      (λ j row ys q. return-rule s a (moveTo (suc j) row w) _ c (w .at) (q .fit) (λ n u t vs d f₁ l. h _ _ _ (stated d f₁ (omega (arith, q .shorter)))))
+      (λ _ i₂. eat-rule s (moveTo i₂ (w .row) w) _ _ refl f
+      (λ j row ys q. comptime-rule (moveTo (suc j) row w) _ c (w .at) xs ys (q .fit) (omega (arith, q .shorter)) h)
+      (λ e i₃. eat-rule s (moveTo i₃ (w .row) w) _ _ refl f
+      (λ j row ys q. let-rule s a (moveTo (suc j) row w) _ _ (w .at) false ys (q .fit) (λ n u t vs d f₁ l. h _ _ _ (stated d f₁ (omega (arith, q .shorter)))))
+      (λ _ i₄. expr-stmt (moveTo i₄ (w .row) w) k c (w .at) xs f e h)))))
