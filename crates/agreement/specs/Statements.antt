@@ -11,17 +11,17 @@ use lib.Dec.{eqb}
 use lib.ListN.{length, length-append, List·getD-append}
 use Rattle.words.specs.Token
 use Rattle.words.specs.Node
-use Rattle.words.specs.Words.{nodeKind, nodeHead}
+use Rattle.words.specs.Words.{nodeKind, nodePayload, nodeHead}
 use Rattle.definition.specs.declared.Mode.the-variants.{AllowAll, NoPostFixCurlyBrace}
 use Rattle.definition.specs.declared.Unfinished.{Unfinished}
-use Rattle.definition.specs.Prog.{Prog, Then, Branch, Give, headWord, kindOf}
+use Rattle.definition.specs.Prog.{Prog, Then, Branch, Give, headWord, kindOf, endWord}
 use Rattle.definition.specs.Tokens.{contains, eat, expect}
 use Rattle.definition.specs.Nodes.{allocNodeFrom, closeNode, updateKind, pushChild, expectIdent}
-use Rattle.definition.specs.Expressions.{eats, tryParseExpr, parseExpr}
+use Rattle.definition.specs.Expressions.{pushOption, pushClosing, eats, tryParseExpr, parseExpr}
 use Rattle.definition.specs.Statements as Statements
 use Rattle.definition.specs.Statements.{StmtResult, statement, endExprOrStmt, endExpr, requiresSemi, tryParseStmt, comptimeStmt, letStmt, exprStmt, whileStmt, tryParseWhile, letFlags, parseLetStmt, returnStmt, assignStmt}
-use Rattle.definition.specs.Abstract.{Node as Store, noNode, nodeAt, wordIn, newNode, World, Fate, ok, bindA, moveTo, withStore, withLink, ReadersA}
-use Rattle.definition.specs.Encodes.{adopted-length}
+use Rattle.definition.specs.Abstract.{Node as Store, noNode, nodeAt, withWord, written, wordIn, newNode, World, Fate, ok, bindA, moveTo, withStore, withLink, ReadersA}
+use Rattle.definition.specs.Encodes.{keep, written-length, adopted-length}
 use Rattle.chart.specs.Row.{Lexeme, RowToken, token, begins}
 use Rattle.chart.specs.Tree as Tree
 use Rattle.chart.specs.Tree.{Value, flags, Tree, Trees, node, none, _▸_, _⊕_, branch, listed, flag}
@@ -32,8 +32,8 @@ use Rattle.agreement.specs.Run.{run}
 use Rattle.agreement.specs.Sim.{Sim, gives, fails, sinks, Made, made, call, Setting, runs, Fits, eat-rule, check-hit, check-miss, expect-rule, unexpected-rule}
 use Rattle.agreement.specs.Steps.{Ranked, Found, found, not-found, isFlagged, rootKind, isOdd, Open, Done, Agrees, alloc-rule, push-rule, close-branch, update-rule, expr-rule, block-rule, here-rule}
 use Rattle.agreement.specs.Leaves.{expect-ident-rule}
-use Rattle.tree.specs.Stored.{isName}
-use Rattle.tree.specs.Grown.{size, Is, is, Built, Waiting, opened, waits, adopt}
+use Rattle.tree.specs.Stored.{said, isName}
+use Rattle.tree.specs.Grown.{size, ⊕-assoc, ⊕-none, Is, is, Old, Says, is-kept, are-kept, Built, Growing, Waiting, ahead, opened, ended, waits, waits-on, adopt}
 
 -- The flags of a let are the chart's, and fit a payload.
 let-flags : (c m t : Bool) → letFlags c m t ≡ Tree.letFlags c m t
@@ -362,3 +362,108 @@ module _ (s : Setting) (a : Agrees s) {B : Type 0} {P : B → World → Outcome 
       (λ e i₃. eat-rule s (moveTo i₃ (w .row) w) _ _ refl f
       (λ j row ys q. let-rule s a (moveTo (suc j) row w) _ _ (w .at) false ys (q .fit) (λ n u t vs d f₁ l. h _ _ _ (stated d f₁ (omega (arith, q .shorter)))))
       (λ _ i₄. expr-stmt (moveTo i₄ (w .row) w) k c (w .at) xs f e h)))))
+
+-- Trees that wait, where more is written.
+module _ (text tokens : List ℕ) where
+  -- Another reader has run since.
+  waits-later : {st cur now : List Store} {more most : List ℕ} {p c : ℕ} {t : Tree} → length cur ≤ length now → Old text tokens cur now → Says text tokens more most → Waiting text tokens st cur more p c t → Waiting text tokens st now most p c t
+  waits-later {p = p} {c = c} l o says w =
+      record {
+        low = w .low;
+        high = omega (arith, w .high);
+        root = ap (λ (x : Store). x .own) (o c (w .high)) ∙ w .root;
+        apart = w .apart;
+        tree = is-kept text tokens (w .tree) (record {
+          within = λ i x. (x .0, omega (arith, x .1), x .2);
+          head = λ i x. ap (λ (y : Store). y .head) (o i (x .1));
+          kids = λ i x. ap (λ (y : Store). y .kids) (o i (x .1));
+          says = says;
+        });
+      }
+
+  -- The end of a node is set.
+  waits-ended : {st cur : List Store} {more : List ℕ} {p c : ℕ} {t : Tree} (n e : ℕ) → Waiting text tokens st cur more p c t → Waiting text tokens st (written n endWord e cur) more p c t
+  unfolding written
+  waits-ended {cur = cur} {p = p} {c = c} n e w =
+      let z : length (written n endWord e cur) ≡ length cur = written-length n endWord e cur in
+      record {
+        low = w .low;
+        high = rw z (w .high);
+        root = keep (λ (x : Store). x .own) cur n (withWord endWord e (nodeAt cur n)) noNode refl c ∙ w .root;
+        apart = w .apart;
+        tree = is-kept text tokens (w .tree) (record {
+          within = λ i x. (x .0, rw z (x .1), x .2);
+          head = λ i x. keep (λ (y : Store). y .head) cur n (withWord endWord e (nodeAt cur n)) noNode refl i;
+          kids = λ i x. keep (λ (y : Store). y .kids) cur n (withWord endWord e (nodeAt cur n)) noNode refl i;
+          says = λ k q v x. x;
+        });
+      }
+
+  -- What was read after a node was opened waits for it.
+  young-waits : {st cur now : List Store} {values more most : List ℕ} {p l h u c : ℕ} {t : Tree} {ts : Trees} → Growing text tokens st values cur more p l h u ts → Built text tokens cur more now most c t → Waiting text tokens st now most p c t
+  young-waits g b =
+      record {
+        low = omega (arith, g .low, g .high, b .low);
+        high = b .high;
+        root = b .root;
+        apart = omega (arith, g .high, b .low);
+        tree = is-kept text tokens (b .tree) (record {
+          within = λ i x. (omega (arith, g .low, g .high, x .0), x .1, omega (arith, g .high, x .0));
+          head = λ i x. refl;
+          kids = λ i x. refl;
+          says = λ k q v x. x;
+        });
+      }
+
+  -- What waits for a node waits for an older one as well.
+  waits-under : {base st cur : List Store} {more : List ℕ} {p q c : ℕ} {t : Tree} → length base ≤ length st → p < length st → Waiting text tokens st cur more q c t → Waiting text tokens base cur more p c t
+  waits-under l h w =
+      record {
+        low = omega (arith, w .low);
+        high = w .high;
+        root = w .root;
+        apart = omega (arith, w .low);
+        tree = is-kept text tokens (w .tree) (record {
+          within = λ i x. (omega (arith, x .0), x .1, omega (arith, x .0));
+          head = λ i x. refl;
+          kids = λ i x. refl;
+          says = λ k q v x. x;
+        });
+      }
+
+  -- An open node that is as it is to be waits for an older one.
+  open-waits : {base st cur : List Store} {values more : List ℕ} {p n l h u : ℕ} {ts : Trees} {v : Value} → length base ≤ length st → p < length st → Growing text tokens st values cur more n l h u ts
+      → said text tokens more (nodeKind h) (nodePayload h) ≡ Option.some v → Waiting text tokens base cur more p n (node (nodeKind h) v ts)
+  open-waits {n = n} {ts = ts} {v = v} l q g e =
+      record {
+        low = omega (arith, g .low);
+        high = g .high;
+        root = g .root;
+        apart = omega (arith, g .low);
+        tree = is {n = n} {v = v} {ts = ts} (omega (arith, g .low), g .high, omega (arith, g .low)) (ap nodeKind (g .head)) (rw (g .head) e)
+            (are-kept text tokens (g .kids) (record { within = λ i x. (omega (arith, x .0), x .1, omega (arith, x .0)); head = λ i x. refl; kids = λ i x. refl; says = λ k q v x. x }));
+      }
+
+module _ (s : Setting) where
+  -- The list of statements so far, and an expression that waits to be one of them or to close the block.
+  pub data HeldSince (st : List Store) (values : List ℕ) (cur : List Store) (more : List ℕ) (x : Unfinished) (h : ℕ) (ts : Trees) : Option ℕ → Trees → Type 0 where
+    idle : Growing (s .text) (s .tokens) st values cur more (x .node) (x .last) h 0 ts → HeldSince st values cur more x h ts Option.none none
+    held : {c : ℕ} {t : Tree} → Growing (s .text) (s .tokens) st values cur more (x .node) (x .last) h (size t) ts → Waiting (s .text) (s .tokens) st cur more (x .node) c t → x .last < c
+        → HeldSince st values cur more x h ts (Option.some c) (t ▸ none)
+
+  abbrev pub Held : World → World → Unfinished → ℕ → Trees → Option ℕ → Trees → Type 0
+  Held w u x h ts closing after = HeldSince (w .store) (w .values) (u .store) (u .values) x h ts closing after
+
+  -- A statement was read: an expression that waited is linked, and the statement waits.
+  settle-rule : {B : Type 0} {P : B → World → Outcome → Type 0} (w u v : World) (k : Unfinished → World → Fate B) (x : Unfinished) (closing : Option ℕ) (c h : ℕ) (ts after : Trees) {t : Tree} {xs : List RowToken} {o : Outcome}
+      → Held w u x h ts closing after → Done s u v c t → Fits s v xs
+      → ((y : Unfinished) (z : World) → Open s w z y h (size t) (ts ⊕ after) → Waits s w z y c t → y .last < c → Fits s z xs → Sim P (k y z) o)
+      → Sim P (runs s (pushOption x closing) v k) o
+  unfolding run pushOption
+  settle-rule w u v k x _ c h ts _ {t} (idle g) d f next =
+      next x v (rw (⊕-none ts) (ahead (s .text) (s .tokens) (omega (arith, d .size-is)) (d .old) (d .says) (omega (arith, g .size-is, d .size-is)) g)) (young-waits (s .text) (s .tokens) g d) (omega (arith, g .below, d .low)) f
+  settle-rule w u v k x _ c h ts _ {t} (held {c = c₁} {t = t₁} g q l) d f next =
+      adopt-rule s w v k x c₁ (size t)
+      (ahead (s .text) (s .tokens) {waits = size t₁ + size t} (omega (arith, d .size-is)) (d .old) (d .says) (omega (arith, g .size-is, d .size-is)) g) refl
+      (waits-later (s .text) (s .tokens) (omega (arith, d .size-is)) (d .old) (d .says) q) l f (λ o f₁.
+      next (record { node = x .node; last = c₁ }) (withLink (x .node) (x .last) c₁ v) o (waits-on (s .text) (s .tokens) c₁ (omega (arith, q .high, d .low)) (young-waits (s .text) (s .tokens) g d)) (omega (arith, q .high, d .low)) f₁)
