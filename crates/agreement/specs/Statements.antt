@@ -14,12 +14,12 @@ use Rattle.words.specs.Node
 use Rattle.words.specs.Words.{nodeKind, nodePayload, nodeHead}
 use Rattle.definition.specs.declared.Mode.the-variants.{AllowAll, NoPostFixCurlyBrace}
 use Rattle.definition.specs.declared.Unfinished.{Unfinished}
-use Rattle.definition.specs.Prog.{Prog, Then, Branch, Give, headWord, kindOf, endWord}
-use Rattle.definition.specs.Tokens.{contains, eat, expect}
+use Rattle.definition.specs.Prog.{Turn, again, stop, Prog, Then, Branch, Give, headWord, kindOf, endWord}
+use Rattle.definition.specs.Tokens.{contains, eat, emitUnexpected, expect}
 use Rattle.definition.specs.Nodes.{allocNodeFrom, closeNode, updateKind, pushChild, expectIdent}
 use Rattle.definition.specs.Expressions.{pushOption, pushClosing, eats, tryParseExpr, parseExpr}
 use Rattle.definition.specs.Statements as Statements
-use Rattle.definition.specs.Statements.{StmtResult, statement, endExprOrStmt, endExpr, requiresSemi, tryParseStmt, comptimeStmt, letStmt, exprStmt, whileStmt, tryParseWhile, letFlags, parseLetStmt, returnStmt, assignStmt}
+use Rattle.definition.specs.Statements.{StmtResult, statement, endExprOrStmt, endExpr, requiresSemi, Body, body, endExprTurn, stmtTurn, parseBlock, tryParseStmt, comptimeStmt, letStmt, exprStmt, whileStmt, tryParseWhile, letFlags, parseLetStmt, returnStmt, assignStmt}
 use Rattle.definition.specs.Abstract.{Node as Store, noNode, nodeAt, withWord, written, wordIn, newNode, World, Fate, ok, bindA, moveTo, withStore, withLink, ReadersA}
 use Rattle.definition.specs.Encodes.{keep, written-length, adopted-length}
 use Rattle.chart.specs.Row.{Lexeme, RowToken, token, begins}
@@ -27,9 +27,9 @@ use Rattle.chart.specs.Tree as Tree
 use Rattle.chart.specs.Tree.{Value, flags, Tree, Trees, node, none, _▸_, _⊕_, branch, listed, flag}
 use Rattle.chart.specs.Chart.{isBlockLike}
 use Rattle.chart.specs.Parser as Chart
-use Rattle.chart.specs.Parser.{Outcome, if, on, bind, failed, readBindingName, readBinding, readExpression, readComptime, readStatement}
-use Rattle.agreement.specs.Run.{run}
-use Rattle.agreement.specs.Sim.{Sim, gives, fails, sinks, Made, made, call, Setting, runs, Fits, eat-rule, check-hit, check-miss, expect-rule, unexpected-rule}
+use Rattle.chart.specs.Parser.{Outcome, if, on, bind, failed, readBindingName, readBinding, readExpression, readComptime, readStatement, readStatements, readBlock, push}
+use Rattle.agreement.specs.Run.{run, run-is, run-ok, turns}
+use Rattle.agreement.specs.Sim.{Sim, gives, fails, sinks, Made, made, call, Setting, runs, Fits, eat-rule, check-rule, check-hit, check-miss, eof-rule, eof-either, expect-rule, unexpected-rule}
 use Rattle.agreement.specs.Steps.{Ranked, Found, found, not-found, isFlagged, rootKind, isOdd, Open, Done, Agrees, alloc-rule, push-rule, close-branch, update-rule, expr-rule, block-rule, here-rule}
 use Rattle.agreement.specs.Leaves.{expect-ident-rule}
 use Rattle.tree.specs.Stored.{said, isName}
@@ -467,3 +467,71 @@ module _ (s : Setting) where
       (ahead (s .text) (s .tokens) {waits = size t₁ + size t} (omega (arith, d .size-is)) (d .old) (d .says) (omega (arith, g .size-is, d .size-is)) g) refl
       (waits-later (s .text) (s .tokens) (omega (arith, d .size-is)) (d .old) (d .says) q) l f (λ o f₁.
       next (record { node = x .node; last = c₁ }) (withLink (x .node) (x .last) c₁ v) o (waits-on (s .text) (s .tokens) c₁ (omega (arith, q .high, d .low)) (young-waits (s .text) (s .tokens) g d)) (omega (arith, q .high, d .low)) f₁)
+
+  -- Where the statements of a block end: at the `}` that the chart has passed by then; or at the end of the row, which is in no rule.
+  pub data Ended (w : World) (h : ℕ) (ts : Trees) (xs : List RowToken) : Body → World → Outcome → Type 0 where
+    at-curly : {b : Body} {u : World} {us after : Trees} {v : Lexeme} {ys : List RowToken} → Held w u (b .list) h (ts ⊕ us) (b .closing) after → Fits s u (token Token.RightCurly v ∷ ys) → length ys < length xs
+        → Ended w h ts xs b u (Chart.ok (listed Node.StatementsList us after) ys)
+    cut-off : {b : Body} {u : World} {us after : Trees} → Held w u (b .list) h us (b .closing) after → Fits s u [] → Ended w h ts xs b u failed
+
+  -- A statement before the others.
+  pushed : (w : World) (h : ℕ) (ts : Trees) (t : Tree) (xs ys : List RowToken) {f : Fate Body} {o : Outcome} → length ys ≤ length xs → Sim (Ended w h (ts ⊕ (t ▸ none)) ys) f o
+      → Sim (Ended w h ts xs) f (bind o (λ b zs. Chart.ok (push (t ▸ none) b) zs))
+  unfolding bind push
+  pushed w h ts t xs ys l (gives (at-curly {us = us} q f m)) = gives (at-curly (rw (⊕-assoc ts (t ▸ none) us) at q) f (omega arith))
+  pushed w h ts t xs ys l (gives (cut-off q f)) = gives (cut-off q f)
+  pushed w h ts t xs ys l fails = fails
+  pushed w h ts t xs ys l sinks = sinks
+
+  -- Where an expression waits, no `}` is next.
+  data Calm (xs : List RowToken) : Option ℕ → Type 0 where
+    calm-none : Calm xs Option.none
+    calm-some : {c : ℕ} → begins Token.RightCurly xs ≡ false → Calm xs (Option.some c)
+
+  abbrev afterStmt : Body → StmtResult → Prog (Turn Body)
+  afterStmt b result =
+      elim result [
+        | Statements.nothing ↦ Then emitUnexpected (λ _. Give (stop b))
+        | statement stmt ↦ Then (pushOption (b .list) (b .closing)) (λ list. Then (pushChild list stmt) (λ list. Give (again (body list Option.none))))
+        | endExprOrStmt expr ↦ Then (pushOption (b .list) (b .closing)) (λ list. Give (again (body list (Option.some expr))))
+        | endExpr expr ↦ Then (pushOption (b .list) (b .closing)) (λ list. endExprTurn list expr)
+      ]
+
+  abbrev loops : ℕ → Body → World → Fate Body
+  loops n b u = turns (λ y v j. runs s (stmtTurn y) v j) n b u ok
+
+  abbrev goesOn : ℕ → Turn Body → World → Fate Body
+  goesOn n turn u = elim turn [ again b ↦ loops n b u | stop b ↦ ok b u ]
+
+  -- At `}` the loop stops.
+  stops : (n : ℕ) (w u : World) (x : Unfinished) (h c : ℕ) (ts : Trees) (t : Tree) (v : Lexeme) (xs ys : List RowToken) → 0 < n → Held w u x h ts (Option.some c) (t ▸ none) → Fits s u (token Token.RightCurly v ∷ ys) → length ys < length xs
+      → Sim (Ended w h ts xs) (loops n (body x (Option.some c)) u) (Chart.ok (listed Node.StatementsList none (t ▸ none)) ys)
+  unfolding run turns stmtTurn
+  stops zero w u x h c ts t v xs ys z q f l = absurd (omega arith)
+  stops (suc n) w u x h c ts t v xs ys z q f l = check-hit s u _ f refl (λ i. gives (at-curly (rw (⊕-none ts) q) f l))
+
+  -- What a turn comes to once a statement was looked for, where later turns agree.
+  after-rule : (a : Agrees s) (n m : ℕ) (w u : World) (x : Unfinished) (h : ℕ) (ts : Trees) (closing : Option ℕ) (after : Trees) (xs : List RowToken) → length xs < suc n → Held w u x h ts closing after
+      → ((u : World) (x : Unfinished) (ts : Trees) (closing : Option ℕ) (after : Trees) (ys : List RowToken) → length ys < length xs → Held w u x h ts closing after → Calm ys closing → Fits s u ys
+      → Sim (Ended w h (ts ⊕ after) ys) (loops n (body x closing) u) (readStatements (s .rows) m ys))
+      → (r : StmtResult) (v : World) (o : Outcome) → Stated s u xs (λ t ys. bind (readStatements (s .rows) m ys) (λ b zs. Chart.ok (push t b) zs)) r v o
+      → Sim (Ended w h (ts ⊕ after) xs) (runs s (afterStmt (body x closing) r) v (λ turn z. goesOn n turn z)) o
+  unfolding run endExprTurn
+  after-rule a n m w u x h ts closing after xs l q ih _ _ _ (stated {n = c} {u = v} {t = t} {ys = ys} d f l₁) =
+      settle-rule w u v _ x closing c h ts after q d f (λ y z o p e f₁.
+      adopt-rule s w z _ y c 0 o (omega arith) p e f₁ (λ o₁ f₂.
+      pushed w h (ts ⊕ after) t xs ys (omega arith)
+      (rw (← ⊕-none ((ts ⊕ after) ⊕ (t ▸ none))) (ih _ _ _ Option.none none ys l₁ (idle o₁) calm-none f₂))))
+  after-rule a n m w u x h ts closing after xs l q ih _ _ _ (goes-on {n = c} {u = v} {t = t} {ys = ys} d f l₁ miss) =
+      settle-rule w u v _ x closing c h ts after q d f (λ y z o p e f₁.
+      pushed w h (ts ⊕ after) t xs ys (omega arith) (ih z y (ts ⊕ after) (Option.some c) (t ▸ none) ys l₁ (held o p e) (calm-some miss) f₁))
+  after-rule a n m w u x h ts closing after xs l q ih _ _ _ (may-close {n = c} {u = v} {t = t} {v = y₁} {ys = ys} d f l₁) =
+      settle-rule w u v _ x closing c h ts after q d f (λ y z o p e f₁.
+      stops n w z y h c (ts ⊕ after) t y₁ xs ys (omega arith) (held o p e) f₁ l₁)
+  after-rule a n m w u x h ts closing after xs l q ih _ _ _ (closes {n = c} {u = v} {t = t} {v = y₁} {ys = ys} d f l₁) =
+      settle-rule w u v _ x closing c h ts after q d f (λ y z o p e f₁.
+      check-hit s z _ f₁ refl (λ i. eof-either s (moveTo i (z .row) z) _ f₁ (λ b j. gives (at-curly (rw (⊕-none (ts ⊕ after)) (held o p e)) f₁ l₁))))
+  after-rule a n m w u x h ts closing after xs l q ih _ _ _ (unclosed {n = c} {u = v} {t = t} {ys = ys} d f miss) =
+      settle-rule w u v _ x closing c h ts after q d f (λ y z o p e f₁.
+      check-miss s z _ Token.RightCurly refl f₁ miss (λ i. eof-rule s (moveTo i (z .row) z) _ f₁ (λ r j. gives (cut-off (held o p e) (rw r at f₁))) (λ j kind zs r. fails)))
+  after-rule a n m w u x h ts closing after xs l q ih _ _ _ (not-stated {u = v} f) = unexpected-rule s v _ f
