@@ -535,3 +535,25 @@ module _ (s : Setting) where
       settle-rule w u v _ x closing c h ts after q d f (λ y z o p e f₁.
       check-miss s z _ Token.RightCurly refl f₁ miss (λ i. eof-rule s (moveTo i (z .row) z) _ f₁ (λ r j. gives (cut-off (held o p e) (rw r at f₁))) (λ j kind zs r. fails)))
   after-rule a n m w u x h ts closing after xs l q ih _ _ _ (not-stated {u = v} f) = unexpected-rule s v _ f
+
+  -- At `}` the list ends, and no expression waits.
+  ends-here : (w u : World) (x : Unfinished) (h : ℕ) (ts : Trees) (closing : Option ℕ) (after : Trees) (v : Lexeme) (xs ys : List RowToken) → Held w u x h ts closing after → Calm xs closing → xs ≡ token Token.RightCurly v ∷ ys → Fits s u xs
+      → Ended w h (ts ⊕ after) xs (body x closing) u (Chart.ok (listed Node.StatementsList none none) ys)
+  unfolding begins
+  ends-here w u x h ts _ _ v xs ys (idle g) c e f =
+      let q : Held w u x h ((ts ⊕ none) ⊕ none) Option.none none = idle (rw (⊕-none ts, ⊕-none ts) g) in
+      at-curly q (rw e at f) (let z : length xs ≡ suc (length ys) = ap length e in omega arith)
+  ends-here w u x h ts _ _ v xs ys (held g q l) (calm-some miss) e f = absurd (true≢false (rw e at miss))
+
+  -- The loop over statements.
+  statements-agree : (a : Agrees s) (n m : ℕ) (w u : World) (x : Unfinished) (h : ℕ) (ts : Trees) (closing : Option ℕ) (after : Trees) (xs : List RowToken) → length xs < n → length xs < m
+      → Held w u x h ts closing after → Calm xs closing → Fits s u xs → Sim (Ended w h (ts ⊕ after) xs) (loops n (body x closing) u) (readStatements (s .rows) m xs)
+  unfolding run turns stmtTurn readStatements
+  statements-agree a zero m w u x h ts closing after xs l l₁ q c f = absurd (omega arith)
+  statements-agree a (suc n) zero w u x h ts closing after xs l l₁ q c f = absurd (omega arith)
+  statements-agree a (suc n) (suc m) w u x h ts closing after xs l l₁ q c f =
+      check-rule s u _ _ refl f
+      (λ j ys e. gives (ends-here w (moveTo j (u .row) u) x h ts closing after _ xs ys q c e f))
+      (λ _ i. stmt-rule s a (moveTo i (u .row) u) _ _ xs f
+      (after-rule a n m w (moveTo i (u .row) u) x h ts closing after xs l q
+      (λ u₁ x₁ ts₁ closing₁ after₁ ys l₂ q₁ c₁ f₁. statements-agree a n m w u₁ x₁ h ts₁ closing₁ after₁ ys (omega arith) (omega arith) q₁ c₁ f₁)))
