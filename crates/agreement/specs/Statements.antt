@@ -1,5 +1,5 @@
 -- Statements and blocks.
-use mathlib.Core.Path.{_≡_, refl, sym, _∙_, ap}
+use mathlib.Core.Path.{_≡_, refl, sym, _∙_, ap, subst}
 use mathlib.Core.Bool.{Bool, true, false, not, _&&_, _||_, true≢false}
 use mathlib.Core.Option.{Option}
 use mathlib.Core.Option as Option
@@ -14,13 +14,13 @@ use Rattle.words.specs.Node
 use Rattle.words.specs.Words.{nodeKind, nodePayload, nodeHead}
 use Rattle.definition.specs.declared.Mode.the-variants.{AllowAll, NoPostFixCurlyBrace}
 use Rattle.definition.specs.declared.Unfinished.{Unfinished}
-use Rattle.definition.specs.Prog.{Turn, again, stop, Prog, Then, Branch, Give, headWord, kindOf, endWord}
+use Rattle.definition.specs.Prog.{Turn, again, stop, Prog, Then, Branch, Give, Loop, headWord, kindOf, firstWord, endWord}
 use Rattle.definition.specs.Tokens.{contains, eat, emitUnexpected, expect}
-use Rattle.definition.specs.Nodes.{allocNodeFrom, closeNode, updateKind, pushChild, expectIdent}
+use Rattle.definition.specs.Nodes.{allocNodeFrom, closeNodeAt, closeNode, updateKind, pushChild, expectIdent}
 use Rattle.definition.specs.Expressions.{pushOption, pushClosing, eats, tryParseExpr, parseExpr}
 use Rattle.definition.specs.Statements as Statements
 use Rattle.definition.specs.Statements.{StmtResult, statement, endExprOrStmt, endExpr, requiresSemi, Body, body, endExprTurn, stmtTurn, parseBlock, tryParseStmt, comptimeStmt, letStmt, exprStmt, whileStmt, tryParseWhile, letFlags, parseLetStmt, returnStmt, assignStmt}
-use Rattle.definition.specs.Abstract.{Node as Store, noNode, nodeAt, withWord, written, wordIn, newNode, World, Fate, ok, bindA, moveTo, withStore, withLink, ReadersA}
+use Rattle.definition.specs.Abstract.{Node as Store, noNode, nodeAt, withWord, written, wordIn, newNode, World, Fate, ok, bindA, moveTo, withStore, withLink, ReadersA, evalA}
 use Rattle.definition.specs.Encodes.{keep, written-length, adopted-length}
 use Rattle.chart.specs.Row.{Lexeme, RowToken, token, begins}
 use Rattle.chart.specs.Tree as Tree
@@ -29,8 +29,8 @@ use Rattle.chart.specs.Chart.{isBlockLike}
 use Rattle.chart.specs.Parser as Chart
 use Rattle.chart.specs.Parser.{Outcome, if, on, bind, failed, readBindingName, readBinding, readExpression, readComptime, readStatement, readStatements, readBlock, push}
 use Rattle.agreement.specs.Run.{run, run-is, run-ok, turns}
-use Rattle.agreement.specs.Sim.{Sim, gives, fails, sinks, Made, made, call, Setting, runs, Fits, eat-rule, check-rule, check-hit, check-miss, eof-rule, eof-either, expect-rule, unexpected-rule}
-use Rattle.agreement.specs.Steps.{Ranked, Found, found, not-found, isFlagged, rootKind, isOdd, Open, Done, Agrees, alloc-rule, push-rule, close-branch, update-rule, expr-rule, block-rule, here-rule}
+use Rattle.agreement.specs.Sim.{Sim, gives, fails, sinks, Made, made, call, Setting, runs, Fits, eat-rule, check-rule, check-hit, check-miss, eof-rule, eof-either, expect-rule, expect-hit, expect-miss, unexpected-rule}
+use Rattle.agreement.specs.Steps.{Ranked, Found, found, not-found, isFlagged, flagged, rootKind, isOdd, Open, Done, Agrees, Blocked, alloc-rule, alloc-here, push-rule, close-branch, update-rule, expr-rule, block-rule, here-rule}
 use Rattle.agreement.specs.Leaves.{expect-ident-rule}
 use Rattle.tree.specs.Stored.{said, isName}
 use Rattle.tree.specs.Grown.{size, ⊕-assoc, ⊕-none, Is, is, Old, Says, is-kept, are-kept, Built, Growing, Waiting, ahead, opened, ended, waits, waits-on, adopt}
@@ -448,7 +448,7 @@ module _ (s : Setting) where
   -- The list of statements so far, and an expression that waits to be one of them or to close the block.
   pub data HeldSince (st : List Store) (values : List ℕ) (cur : List Store) (more : List ℕ) (x : Unfinished) (h : ℕ) (ts : Trees) : Option ℕ → Trees → Type 0 where
     idle : Growing (s .text) (s .tokens) st values cur more (x .node) (x .last) h 0 ts → HeldSince st values cur more x h ts Option.none none
-    held : {c : ℕ} {t : Tree} → Growing (s .text) (s .tokens) st values cur more (x .node) (x .last) h (size t) ts → Waiting (s .text) (s .tokens) st cur more (x .node) c t → x .last < c
+    held : {c : ℕ} {t : Tree} → Growing (s .text) (s .tokens) st values cur more (x .node) (x .last) h (size t) ts → Waiting (s .text) (s .tokens) st cur more (x .node) c t → (x .last < c) × (x .node < c)
         → HeldSince st values cur more x h ts (Option.some c) (t ▸ none)
 
   abbrev pub Held : World → World → Unfinished → ℕ → Trees → Option ℕ → Trees → Type 0
@@ -457,16 +457,16 @@ module _ (s : Setting) where
   -- A statement was read: an expression that waited is linked, and the statement waits.
   settle-rule : {B : Type 0} {P : B → World → Outcome → Type 0} (w u v : World) (k : Unfinished → World → Fate B) (x : Unfinished) (closing : Option ℕ) (c h : ℕ) (ts after : Trees) {t : Tree} {xs : List RowToken} {o : Outcome}
       → Held w u x h ts closing after → Done s u v c t → Fits s v xs
-      → ((y : Unfinished) (z : World) → Open s w z y h (size t) (ts ⊕ after) → Waits s w z y c t → y .last < c → Fits s z xs → Sim P (k y z) o)
+      → ((y : Unfinished) (z : World) → Open s w z y h (size t) (ts ⊕ after) → Waits s w z y c t → (y .last < c) × (y .node < c) → Fits s z xs → Sim P (k y z) o)
       → Sim P (runs s (pushOption x closing) v k) o
   unfolding run pushOption
   settle-rule w u v k x _ c h ts _ {t} (idle g) d f next =
-      next x v (rw (⊕-none ts) (ahead (s .text) (s .tokens) (omega (arith, d .size-is)) (d .old) (d .says) (omega (arith, g .size-is, d .size-is)) g)) (young-waits (s .text) (s .tokens) g d) (omega (arith, g .below, d .low)) f
+      next x v (rw (⊕-none ts) (ahead (s .text) (s .tokens) (omega (arith, d .size-is)) (d .old) (d .says) (omega (arith, g .size-is, d .size-is)) g)) (young-waits (s .text) (s .tokens) g d) (omega (arith, g .below, d .low), omega (arith, g .high, d .low)) f
   settle-rule w u v k x _ c h ts _ {t} (held {c = c₁} {t = t₁} g q l) d f next =
       adopt-rule s w v k x c₁ (size t)
       (ahead (s .text) (s .tokens) {waits = size t₁ + size t} (omega (arith, d .size-is)) (d .old) (d .says) (omega (arith, g .size-is, d .size-is)) g) refl
-      (waits-later (s .text) (s .tokens) (omega (arith, d .size-is)) (d .old) (d .says) q) l f (λ o f₁.
-      next (record { node = x .node; last = c₁ }) (withLink (x .node) (x .last) c₁ v) o (waits-on (s .text) (s .tokens) c₁ (omega (arith, q .high, d .low)) (young-waits (s .text) (s .tokens) g d)) (omega (arith, q .high, d .low)) f₁)
+      (waits-later (s .text) (s .tokens) (omega (arith, d .size-is)) (d .old) (d .says) q) (l .0) f (λ o f₁.
+      next (record { node = x .node; last = c₁ }) (withLink (x .node) (x .last) c₁ v) o (waits-on (s .text) (s .tokens) c₁ (omega (arith, q .high, d .low)) (young-waits (s .text) (s .tokens) g d)) (omega (arith, q .high, d .low), omega (arith, g .high, d .low)) f₁)
 
   -- Where the statements of a block end: at the `}` that the chart has passed by then; or at the end of the row, which is in no rule.
   pub data Ended (w : World) (h : ℕ) (ts : Trees) (xs : List RowToken) : Body → World → Outcome → Type 0 where
@@ -519,7 +519,7 @@ module _ (s : Setting) where
   unfolding run endExprTurn
   after-rule a n m w u x h ts closing after xs l q ih _ _ _ (stated {n = c} {u = v} {t = t} {ys = ys} d f l₁) =
       settle-rule w u v _ x closing c h ts after q d f (λ y z o p e f₁.
-      adopt-rule s w z _ y c 0 o (omega arith) p e f₁ (λ o₁ f₂.
+      adopt-rule s w z _ y c 0 o (omega arith) p (e .0) f₁ (λ o₁ f₂.
       pushed w h (ts ⊕ after) t xs ys (omega arith)
       (rw (← ⊕-none ((ts ⊕ after) ⊕ (t ▸ none))) (ih _ _ _ Option.none none ys l₁ (idle o₁) calm-none f₂))))
   after-rule a n m w u x h ts closing after xs l q ih _ _ _ (goes-on {n = c} {u = v} {t = t} {ys = ys} d f l₁ miss) =
@@ -557,3 +557,81 @@ module _ (s : Setting) where
       (λ _ i. stmt-rule s a (moveTo i (u .row) u) _ _ xs f
       (after-rule a n m w (moveTo i (u .row) u) x h ts closing after xs l q
       (λ u₁ x₁ ts₁ closing₁ after₁ ys l₂ q₁ c₁ f₁. statements-agree a n m w u₁ x₁ h ts₁ closing₁ after₁ ys (omega arith) (omega arith) q₁ c₁ f₁)))
+
+  -- A program whose agreement is known, and what comes after it beside the same outcome.
+  follow : {A B : Type 0} {Q : A → World → Outcome → Type 0} {P : B → World → Outcome → Type 0} (p : Prog A) (w : World) (k : A → World → Fate B) {o : Outcome} → Sim Q (runs s p w ok) o
+      → ((b : A) (u : World) → Q b u o → Sim P (k b u) o) → Sim P (runs s p w k) o
+  follow {A} {B} {Q} {P} p w k {o} h g =
+      let e : runs s p w ok ≡ evalA (s .text) (s .tokens) (s .end) (s .bound) (s .readers) p w = run-ok (s .text) (s .tokens) (s .end) (s .bound) (s .readers) p w in
+      let q : runs s {A = A} {B = B} p w k ≡ bindA (evalA (s .text) (s .tokens) (s .end) (s .bound) (s .readers) p w) k = run-is (s .text) (s .tokens) (s .end) (s .bound) (s .readers) p w k in
+      subst (λ f. Sim P f o) (sym q) (go (rw e at h) g)
+    where
+      go : {f : Fate A} {r : Outcome} → Sim Q f r → ((b : A) (u : World) → Q b u r → Sim P (k b u) r) → Sim P (bindA f k) r
+      go (gives x) j = j _ _ x
+      go fails j = fails
+      go sinks j = sinks
+
+  -- The end of a node is set: all that is ahead stays.
+  ended-fit : (u : World) (n e : ℕ) {xs : List RowToken} → Fits s u xs → Fits s (withStore (written n endWord e (u .store)) u) xs
+  ended-fit u n e f = record { ahead = f .ahead; room = f .room; few = f .few; born = rw (written-length n endWord e (u .store)) (f .born); sound = f .sound }
+
+  -- The list is closed and linked to its block, and after it the closing expression.
+  abbrev sealed : Unfinished → Unfinished → Option ℕ → Prog Unfinished
+  sealed p x closing = Then (closeNode x) (λ n. Then (pushChild p n) (λ y. pushClosing y n closing))
+
+  seal-held : {B : Type 0} {P : B → World → Outcome → Type 0} (w u v : World) (k : Unfinished → World → Fate B) (p x : Unfinished) (h : ℕ) (us : Trees) (c : ℕ) (t : Tree) {xs : List RowToken} {o : Outcome}
+      → Open s w u p h 0 none → Open s u v x (nodeHead Node.StatementsList 0) (size t) us → Waits s u v x c t → x .node < c → Fits s v xs
+      → ((y : Unfinished) (z : World) → Open s w z y h 0 (listed Node.StatementsList us (t ▸ none)) → Fits s z xs → Sim P (k y z) o)
+      → Sim P (runs s (sealed p x (Option.some c)) v k) o
+  unfolding run closeNode closeNodeAt pushClosing _⊕_ size isFlagged isName
+  seal-held w u v k p x h us c t o g q l f next =
+      let tree = node Node.StatementsList (flags 0) us in
+      let says = flagged (s .text) (s .tokens) (v .values) Node.StatementsList 0 refl in
+      let since : length (w .store) ≤ length (u .store) = omega (arith, o .size-is) in
+      let list : Waits s w v p (x .node) tree = rw (says .kind-is) at (open-waits (s .text) (s .tokens) {base = w .store} since (o .high) g (says .says)) in
+      let expr : Waits s w v p c t = waits-under (s .text) (s .tokens) since (o .high) q in
+      let block : Open s w v p h (size tree + size t) none = ahead (s .text) (s .tokens) (omega (arith, g .size-is)) (g .old) (g .says) (omega (arith, o .size-is, g .size-is)) o in
+      let v₁ = withStore (written (x .node) endWord (v .at) (v .store)) v in
+      let low : length (w .store) ≤ x .node = omega (arith, g .low) in
+      adopt-rule s w v₁ (λ y z. runs s (pushClosing y (x .node) (Option.some c)) z k) p (x .node) (size t) (ended (s .text) (s .tokens) (x .node) (v .at) low block) refl (waits-ended (s .text) (s .tokens) (x .node) (v .at) list) (omega (arith, o .below, g .low)) (ended-fit v (x .node) (v .at) f) (λ o₁ f₁.
+      let v₂ = withLink (p .node) (p .last) (x .node) v₁ in
+      let e = wordIn c firstWord (v₂ .store) in
+      adopt-rule s w (withStore (written (x .node) endWord e (v₂ .store)) v₂) k (record { node = p .node; last = x .node }) c 0 (ended (s .text) (s .tokens) (x .node) e low o₁) (omega arith)
+      (waits-ended (s .text) (s .tokens) (x .node) e (waits-on (s .text) (s .tokens) (x .node) (omega arith) (waits-ended (s .text) (s .tokens) (x .node) (v .at) expr))) l (ended-fit v₂ (x .node) e f₁) (λ o₂ f₂.
+      next _ _ o₂ f₂))
+
+  seal-rule : {B : Type 0} {P : B → World → Outcome → Type 0} (w u v : World) (k : Unfinished → World → Fate B) (p x : Unfinished) (h : ℕ) (us : Trees) (closing : Option ℕ) (after : Trees) {xs : List RowToken} {o : Outcome}
+      → Open s w u p h 0 none → Held u v x (nodeHead Node.StatementsList 0) us closing after → Fits s v xs
+      → ((y : Unfinished) (z : World) → Open s w z y h 0 (listed Node.StatementsList us after) → Fits s z xs → Sim P (k y z) o)
+      → Sim P (runs s (sealed p x closing) v k) o
+  unfolding run pushClosing _⊕_ isFlagged isName
+  seal-rule w u v k p x h us _ _ o (idle g) f next =
+      close-branch s u v _ x g refl f (λ n z d f₁.
+      push-rule s w u z _ p n o d f₁ (λ y z₁ o₁ f₂. next y z₁ o₁ f₂))
+  seal-rule w u v k p x h us _ _ o (held {c = c} {t = t} g q l) f next = seal-held w u v k p x h us c t o g q (l .1) f next
+
+  -- The end of a block, its statements read.
+  abbrev blockEnd : Unfinished → Body → Prog ℕ
+  blockEnd p b = Then (closeNode (b .list)) (λ n. Then (pushChild p n) (λ y. Then (pushClosing y n (b .closing)) (λ z. Then (expect Token.RightCurly) (λ _. closeNode z))))
+
+  block-end : (w u : World) (p : Unfinished) (kind : ℕ) (xs ys : List RowToken) → isFlagged kind 0 ≡ true → Open s w u p (nodeHead kind 0) 0 none → length ys < length xs
+      → (b : Body) (v : World) (o : Outcome) → Ended u (nodeHead Node.StatementsList 0) none ys b v o → Sim (Blocked s w kind xs) (runs s (blockEnd p b) v ok) o
+  unfolding run _⊕_ begins
+  block-end w u p kind xs ys e g l _ _ _ (at-curly {b} {u = v} {us} {after} {ys = zs} q f l₁) =
+      seal-rule w u v _ p (b .list) (nodeHead kind 0) us (b .closing) after g q f (λ y z o f₁.
+      expect-hit s z _ f₁ refl (λ j row r.
+      close-branch s w (moveTo (suc j) row z) _ y o e (r .fit) (λ n z₁ d f₂. gives (made (d, f₂, omega arith)))))
+  block-end w u p kind xs ys e g l _ _ _ (cut-off {b} {u = v} {us} {after} q f) =
+      seal-rule w u v _ p (b .list) (nodeHead kind 0) us (b .closing) after g q f (λ y z o f₁. expect-miss s z _ Token.RightCurly refl f₁ refl)
+
+module _ (s : Setting) (a : Agrees s) where
+  -- `parse_block` agrees with the chart's.
+  pub block : (start kind : ℕ) (w : World) (xs : List RowToken) → isFlagged kind 0 ≡ true → Fits s w xs → Sim (Blocked s w kind xs) (runs s (parseBlock start kind) w ok) (readBlock (s .rows) xs)
+  unfolding run parseBlock readBlock _⊕_
+  block start kind w xs e f =
+      alloc-rule s w _ start kind 0 f (λ p u o f₁.
+      expect-rule s u _ _ refl f₁ (λ j row ys q.
+      alloc-here s (moveTo (suc j) row u) _ Node.StatementsList 0 (q .fit) (λ x v g f₂.
+      follow s (Loop (body x Option.none) stmtTurn) v _
+      (statements-agree s a (s .bound) (suc (length ys)) (moveTo (suc j) row u) v x (nodeHead Node.StatementsList 0) none Option.none none ys (f₂ .few) (omega arith) (idle g) calm-none f₂)
+      (λ b z r. block-end s w (moveTo (suc j) row u) p kind xs ys e o (q .shorter) b z _ r))))
