@@ -20,7 +20,7 @@ use Rattle.definition.specs.Nodes.{allocNodeFrom, closeNodeAt, closeNode, updat
 use Rattle.definition.specs.Expressions.{pushOption, pushClosing, eats, tryParseExpr, parseExpr}
 use Rattle.definition.specs.Statements as Statements
 use Rattle.definition.specs.Statements.{StmtResult, statement, endExprOrStmt, endExpr, requiresSemi, Body, body, endExprTurn, stmtTurn, parseBlock, tryParseStmt, comptimeStmt, letStmt, exprStmt, whileStmt, tryParseWhile, letFlags, parseLetStmt, returnStmt, assignStmt}
-use Rattle.definition.specs.Abstract.{Node as Store, noNode, nodeAt, withWord, written, wordIn, newNode, World, Fate, ok, bindA, moveTo, withStore, withLink, ReadersA, evalA}
+use Rattle.definition.specs.Abstract.{Node as Store, noNode, nodeAt, withWord, written, wordIn, newNode, World, Fate, ok, bindA, moveTo, withStore, withLink, evalA}
 use Rattle.definition.specs.Encodes.{keep, written-length, adopted-length}
 use Rattle.chart.specs.Row.{Lexeme, RowToken, token, begins}
 use Rattle.chart.specs.Tree as Tree
@@ -35,7 +35,7 @@ use Rattle.agreement.specs.Leaves.{expect-ident-rule}
 use Rattle.tree.specs.Stored.{said, isName}
 use Rattle.tree.specs.Grown.{size, ⊕-assoc, ⊕-none, Is, is, Old, Says, is-kept, are-kept, Built, Growing, Waiting, ahead, opened, ended, waits, waits-on, adopt}
 
--- The flags of a let are the chart's, and fit a payload.
+-- The flags of a let are the chart's.
 let-flags : (c m t : Bool) → letFlags c m t ≡ Tree.letFlags c m t
 unfolding flag
 let-flags true true true = refl
@@ -47,6 +47,7 @@ let-flags false true false = refl
 let-flags false false true = refl
 let-flags false false false = refl
 
+-- And they fit a payload.
 let-flagged : (c m t : Bool) → isFlagged Node.LetStmt (letFlags c m t) ≡ true
 unfolding isFlagged isName
 let-flagged true true true = refl
@@ -58,7 +59,7 @@ let-flagged false true false = refl
 let-flagged false false true = refl
 let-flagged false false false = refl
 
--- A row begins with a token of a kind, or it doesn't.
+-- What the chart does on a token, by whether the row begins with it.
 on-either : {A : Type 0} {P : A → World → Outcome → Type 0} (f : Fate A) (K : ℕ) (xs : List RowToken) (h : Lexeme → List RowToken → Outcome) (m : Outcome)
     → ((v : Lexeme) (ys : List RowToken) → xs ≡ token K v ∷ ys → Sim P f (h v ys)) → (begins K xs ≡ false → Sim P f m) → Sim P f (on K xs h m)
 unfolding on if begins
@@ -69,6 +70,7 @@ on-either {P = P} f K (token kind v ∷ xs) h m hit miss = go (eqb kind K) refl
     go true e = hit v xs (ap (λ (n : ℕ). token n v ∷ xs) (eqb-true kind K e))
     go false e = miss e
 
+-- A row begins with a token of a kind, or it doesn't.
 data Begun (K : ℕ) : List RowToken → Type 0 where
   here : (v : Lexeme) (ys : List RowToken) → Begun K (token K v ∷ ys)
   nowhere : {xs : List RowToken} → begins K xs ≡ false → Begun K xs
@@ -99,6 +101,7 @@ semi-same kind v ts us e = go (eqb kind Node.ComptimeBlock) (eqb kind Node.Error
 no-priority : Ranked 0 0
 no-priority = record { below = refl; same = λ j. rw (le-leb 0 j (omega arith), le-ltb (2 * j + 1) 0 (omega arith)) }
 
+-- Both of two tests hold.
 both : (a b : Bool) → a ≡ true → b ≡ true → (a && b) ≡ true
 both a b e f = rw (e, f)
 
@@ -140,6 +143,7 @@ module _ (s : Setting) where
         h p (record { ahead = f .ahead; room = f .room; few = f .few; born = rw (adopted-length (x .node) c (u .store)) (f .born); sound = both _ _ (f .sound) m })
 
 module _ (s : Setting) (a : Agrees s) {B : Type 0} {P : B → World → Outcome → Type 0} where
+  -- A while loop, after `while`.
   pub while-rule : (w : World) (k : ℕ → World → Fate B) (c : Trees → List RowToken → Outcome) (start kind : ℕ) {xs : List RowToken} → isFlagged kind 0 ≡ true → Fits s w xs
       → ((n : ℕ) (u : World) (t : Tree) (ys : List RowToken) → Done s w u n t → Fits s u ys → length ys < length xs → Sim P (k n u) (c (t ▸ none) ys))
       → Sim P (runs s (whileStmt start kind) w k) (bind (s .rows .expr false 0 xs) (λ t ys. bind (s .rows .block ys) (λ b zs. c (branch kind 0 (t ⊕ branch Node.Block 0 b)) zs)))
@@ -153,7 +157,7 @@ module _ (s : Setting) (a : Agrees s) {B : Type 0} {P : B → World → Outcome 
       close-branch s w u₂ k x₂ o₂ e f₅ (λ n₁ z d₂ f₆.
       h n₁ z _ zs d₂ f₆ (omega arith)))))))
 
-module _ (s : Setting) (a : Agrees s) where
+module _ (s : Setting) where
   -- One tree that was read.
   pub data OneSince (st : List Store) (values : List ℕ) (xs : List RowToken) : ℕ → World → Trees → List RowToken → Type 0 where
     one : {n : ℕ} {u : World} {t : Tree} {ys : List RowToken} → Built (s .text) (s .tokens) st values (u .store) (u .values) n t → Fits s u ys → length ys < length xs → OneSince st values xs n u (t ▸ none) ys
@@ -161,6 +165,7 @@ module _ (s : Setting) (a : Agrees s) where
   abbrev pub One : World → List RowToken → ℕ → World → Trees → List RowToken → Type 0
   One w xs = OneSince (w .store) (w .values) xs
 
+module _ (s : Setting) (a : Agrees s) where
   -- What `parse_let_stmt` does after `mut` was looked for, and after the type.
   abbrev letEnd : Bool → Bool → Bool → Unfinished → Prog ℕ
   letEnd comptime mutable typed x =
@@ -173,7 +178,7 @@ module _ (s : Setting) (a : Agrees s) where
 
   -- The end of a let.
   let-end : (w u : World) (x : Unfinished) (c m typed : Bool) (h : ℕ) (ts : Trees) (xs zs : List RowToken) → Open s w u x h 0 ts → Fits s u xs → length xs < length zs
-      → Sim (Made (One w zs)) (runs s (letEnd c m typed x) u ok)
+      → Sim (Made (One s w zs)) (runs s (letEnd c m typed x) u ok)
       (on Token.Equals xs (λ _ vs. bind (s .rows .expr true 0 vs) (λ t qs. on Token.Semicolon qs (λ _ rs. Chart.ok (branch Node.LetStmt (Tree.letFlags c m typed) (ts ⊕ t)) rs) failed)) failed)
   unfolding run branch
   let-end w u x c m typed h ts xs zs o f l =
@@ -187,7 +192,7 @@ module _ (s : Setting) (a : Agrees s) where
 
   -- A let after `mut`, or where there is none.
   let-rest : (w : World) (start : ℕ) (c m : Bool) (xs zs : List RowToken) → Fits s w xs → length xs ≤ length zs
-      → Sim (Made (One w zs)) (runs s (letRest start c m) w ok) (readBindingName (s .rows) c m xs)
+      → Sim (Made (One s w zs)) (runs s (letRest start c m) w ok) (readBindingName (s .rows) c m xs)
   unfolding run readBindingName _⊕_
   let-rest w start c m xs zs f l =
       alloc-rule s w _ start Node.LetStmt (letFlags c m false) f (λ x u o f₁.
@@ -200,7 +205,7 @@ module _ (s : Setting) (a : Agrees s) where
       (λ _ i. let-end w (moveTo i (z .row) z) y c m false _ _ ys zs o₁ f₃ (omega arith)))))
 
   -- A let statement.
-  pub let-agrees : (w : World) (start : ℕ) (c : Bool) (xs : List RowToken) → Fits s w xs → Sim (Made (One w xs)) (runs s (parseLetStmt start c) w ok) (readBinding (s .rows) c xs)
+  pub let-agrees : (w : World) (start : ℕ) (c : Bool) (xs : List RowToken) → Fits s w xs → Sim (Made (One s w xs)) (runs s (parseLetStmt start c) w ok) (readBinding (s .rows) c xs)
   unfolding run parseLetStmt readBinding
   let-agrees w start c xs f =
       eat-rule s w _ _ refl f (λ j row ys q. let-rest (moveTo (suc j) row w) start c true ys xs (q .fit) (omega (arith, q .shorter)))
@@ -234,12 +239,13 @@ module _ (s : Setting) (a : Agrees s) {B : Type 0} {P : B → World → Outcome 
       close-branch s w (moveTo (suc j) row u₁) _ x₁ o₂ refl (q₁ .fit) (λ n₂ z d₂ f₅.
       h n₂ z _ zs d₂ f₅ (omega (arith, q₁ .shorter))))))))
 
+  -- A let statement, and what comes after it.
   pub let-rule : (w : World) (k : ℕ → World → Fate B) (c : Trees → List RowToken → Outcome) (start : ℕ) (comptime : Bool) (xs : List RowToken) → Fits s w xs
       → ((n : ℕ) (u : World) (t : Tree) (ys : List RowToken) → Done s w u n t → Fits s u ys → length ys < length xs → Sim P (k n u) (c (t ▸ none) ys))
       → Sim P (runs s (parseLetStmt start comptime) w k) (bind (readBinding (s .rows) comptime xs) c)
   let-rule w k c start comptime xs f h = call s (parseLetStmt start comptime) w k c (let-agrees s a w start comptime xs f) go
     where
-      go : (n : ℕ) (u : World) (ts : Trees) (ys : List RowToken) → One s a w xs n u ts ys → Sim P (k n u) (c ts ys)
+      go : (n : ℕ) (u : World) (ts : Trees) (ys : List RowToken) → One s w xs n u ts ys → Sim P (k n u) (c ts ys)
       go n u ts ys (one {t = t} d g l) = h n u t ys d g l
 
 module _ (s : Setting) where
@@ -488,6 +494,7 @@ module _ (s : Setting) where
     calm-none : Calm xs Option.none
     calm-some : {c : ℕ} → begins Token.RightCurly xs ≡ false → Calm xs (Option.some c)
 
+  -- What a turn does once a statement was looked for; the turns after it; how one goes on to them.
   abbrev afterStmt : Body → StmtResult → Prog (Turn Body)
   afterStmt b result =
       elim result [
@@ -510,31 +517,31 @@ module _ (s : Setting) where
   stops zero w u x h c ts t v xs ys z q f l = absurd (omega arith)
   stops (suc n) w u x h c ts t v xs ys z q f l = check-hit s u _ f refl (λ i. gives (at-curly (rw (⊕-none ts) q) f l))
 
-  -- What a turn comes to once a statement was looked for, where later turns agree.
-  after-rule : (a : Agrees s) (n m : ℕ) (w u : World) (x : Unfinished) (h : ℕ) (ts : Trees) (closing : Option ℕ) (after : Trees) (xs : List RowToken) → length xs < suc n → Held w u x h ts closing after
+  -- So a turn agrees where later turns do.
+  after-rule : (n m : ℕ) (w u : World) (x : Unfinished) (h : ℕ) (ts : Trees) (closing : Option ℕ) (after : Trees) (xs : List RowToken) → length xs < suc n → Held w u x h ts closing after
       → ((u : World) (x : Unfinished) (ts : Trees) (closing : Option ℕ) (after : Trees) (ys : List RowToken) → length ys < length xs → Held w u x h ts closing after → Calm ys closing → Fits s u ys
       → Sim (Ended w h (ts ⊕ after) ys) (loops n (body x closing) u) (readStatements (s .rows) m ys))
       → (r : StmtResult) (v : World) (o : Outcome) → Stated s u xs (λ t ys. bind (readStatements (s .rows) m ys) (λ b zs. Chart.ok (push t b) zs)) r v o
       → Sim (Ended w h (ts ⊕ after) xs) (runs s (afterStmt (body x closing) r) v (λ turn z. goesOn n turn z)) o
   unfolding run endExprTurn
-  after-rule a n m w u x h ts closing after xs l q ih _ _ _ (stated {n = c} {u = v} {t = t} {ys = ys} d f l₁) =
+  after-rule n m w u x h ts closing after xs l q ih _ _ _ (stated {n = c} {u = v} {t = t} {ys = ys} d f l₁) =
       settle-rule w u v _ x closing c h ts after q d f (λ y z o p e f₁.
       adopt-rule s w z _ y c 0 o (omega arith) p (e .0) f₁ (λ o₁ f₂.
       pushed w h (ts ⊕ after) t xs ys (omega arith)
       (rw (← ⊕-none ((ts ⊕ after) ⊕ (t ▸ none))) (ih _ _ _ Option.none none ys l₁ (idle o₁) calm-none f₂))))
-  after-rule a n m w u x h ts closing after xs l q ih _ _ _ (goes-on {n = c} {u = v} {t = t} {ys = ys} d f l₁ miss) =
+  after-rule n m w u x h ts closing after xs l q ih _ _ _ (goes-on {n = c} {u = v} {t = t} {ys = ys} d f l₁ miss) =
       settle-rule w u v _ x closing c h ts after q d f (λ y z o p e f₁.
       pushed w h (ts ⊕ after) t xs ys (omega arith) (ih z y (ts ⊕ after) (Option.some c) (t ▸ none) ys l₁ (held o p e) (calm-some miss) f₁))
-  after-rule a n m w u x h ts closing after xs l q ih _ _ _ (may-close {n = c} {u = v} {t = t} {v = y₁} {ys = ys} d f l₁) =
+  after-rule n m w u x h ts closing after xs l q ih _ _ _ (may-close {n = c} {u = v} {t = t} {v = y₁} {ys = ys} d f l₁) =
       settle-rule w u v _ x closing c h ts after q d f (λ y z o p e f₁.
       stops n w z y h c (ts ⊕ after) t y₁ xs ys (omega arith) (held o p e) f₁ l₁)
-  after-rule a n m w u x h ts closing after xs l q ih _ _ _ (closes {n = c} {u = v} {t = t} {v = y₁} {ys = ys} d f l₁) =
+  after-rule n m w u x h ts closing after xs l q ih _ _ _ (closes {n = c} {u = v} {t = t} {v = y₁} {ys = ys} d f l₁) =
       settle-rule w u v _ x closing c h ts after q d f (λ y z o p e f₁.
       check-hit s z _ f₁ refl (λ i. eof-either s (moveTo i (z .row) z) _ f₁ (λ b j. gives (at-curly (rw (⊕-none (ts ⊕ after)) (held o p e)) f₁ l₁))))
-  after-rule a n m w u x h ts closing after xs l q ih _ _ _ (unclosed {n = c} {u = v} {t = t} {ys = ys} d f miss) =
+  after-rule n m w u x h ts closing after xs l q ih _ _ _ (unclosed {n = c} {u = v} {t = t} {ys = ys} d f miss) =
       settle-rule w u v _ x closing c h ts after q d f (λ y z o p e f₁.
       check-miss s z _ Token.RightCurly refl f₁ miss (λ i. eof-rule s (moveTo i (z .row) z) _ f₁ (λ r j. gives (cut-off (held o p e) (rw r at f₁))) (λ j kind zs r. fails)))
-  after-rule a n m w u x h ts closing after xs l q ih _ _ _ (not-stated {u = v} f) = unexpected-rule s v _ f
+  after-rule n m w u x h ts closing after xs l q ih _ _ _ (not-stated {u = v} f) = unexpected-rule s v _ f
 
   -- At `}` the list ends, and no expression waits.
   ends-here : (w u : World) (x : Unfinished) (h : ℕ) (ts : Trees) (closing : Option ℕ) (after : Trees) (v : Lexeme) (xs ys : List RowToken) → Held w u x h ts closing after → Calm xs closing → xs ≡ token Token.RightCurly v ∷ ys → Fits s u xs
@@ -555,7 +562,7 @@ module _ (s : Setting) where
       check-rule s u _ _ refl f
       (λ j ys e. gives (ends-here w (moveTo j (u .row) u) x h ts closing after _ xs ys q c e f))
       (λ _ i. stmt-rule s a (moveTo i (u .row) u) _ _ xs f
-      (after-rule a n m w (moveTo i (u .row) u) x h ts closing after xs l q
+      (after-rule n m w (moveTo i (u .row) u) x h ts closing after xs l q
       (λ u₁ x₁ ts₁ closing₁ after₁ ys l₂ q₁ c₁ f₁. statements-agree a n m w u₁ x₁ h ts₁ closing₁ after₁ ys (omega arith) (omega arith) q₁ c₁ f₁)))
 
   -- A program whose agreement is known, and what comes after it beside the same outcome.
@@ -575,10 +582,11 @@ module _ (s : Setting) where
   ended-fit : (u : World) (n e : ℕ) {xs : List RowToken} → Fits s u xs → Fits s (withStore (written n endWord e (u .store)) u) xs
   ended-fit u n e f = record { ahead = f .ahead; room = f .room; few = f .few; born = rw (written-length n endWord e (u .store)) (f .born); sound = f .sound }
 
-  -- The list is closed and linked to its block, and after it the closing expression.
+  -- The list is closed and linked to its block, and after it a closing expression.
   abbrev sealed : Unfinished → Unfinished → Option ℕ → Prog Unfinished
   sealed p x closing = Then (closeNode x) (λ n. Then (pushChild p n) (λ y. pushClosing y n closing))
 
+  -- Where there is one.
   seal-held : {B : Type 0} {P : B → World → Outcome → Type 0} (w u v : World) (k : Unfinished → World → Fate B) (p x : Unfinished) (h : ℕ) (us : Trees) (c : ℕ) (t : Tree) {xs : List RowToken} {o : Outcome}
       → Open s w u p h 0 none → Open s u v x (nodeHead Node.StatementsList 0) (size t) us → Waits s u v x c t → x .node < c → Fits s v xs
       → ((y : Unfinished) (z : World) → Open s w z y h 0 (listed Node.StatementsList us (t ▸ none)) → Fits s z xs → Sim P (k y z) o)
@@ -600,6 +608,7 @@ module _ (s : Setting) where
       (waits-ended (s .text) (s .tokens) (x .node) e (waits-on (s .text) (s .tokens) (x .node) (omega arith) (waits-ended (s .text) (s .tokens) (x .node) (v .at) expr))) l (ended-fit v₂ (x .node) e f₁) (λ o₂ f₂.
       next _ _ o₂ f₂))
 
+  -- Whether there is one or not.
   seal-rule : {B : Type 0} {P : B → World → Outcome → Type 0} (w u v : World) (k : Unfinished → World → Fate B) (p x : Unfinished) (h : ℕ) (us : Trees) (closing : Option ℕ) (after : Trees) {xs : List RowToken} {o : Outcome}
       → Open s w u p h 0 none → Held u v x (nodeHead Node.StatementsList 0) us closing after → Fits s v xs
       → ((y : Unfinished) (z : World) → Open s w z y h 0 (listed Node.StatementsList us after) → Fits s z xs → Sim P (k y z) o)
@@ -614,6 +623,7 @@ module _ (s : Setting) where
   abbrev blockEnd : Unfinished → Body → Prog ℕ
   blockEnd p b = Then (closeNode (b .list)) (λ n. Then (pushChild p n) (λ y. Then (pushClosing y n (b .closing)) (λ z. Then (expect Token.RightCurly) (λ _. closeNode z))))
 
+  -- It agrees: `}` is there, or the row is in no rule.
   block-end : (w u : World) (p : Unfinished) (kind : ℕ) (xs ys : List RowToken) → isFlagged kind 0 ≡ true → Open s w u p (nodeHead kind 0) 0 none → length ys < length xs
       → (b : Body) (v : World) (o : Outcome) → Ended u (nodeHead Node.StatementsList 0) none ys b v o → Sim (Blocked s w kind xs) (runs s (blockEnd p b) v ok) o
   unfolding run _⊕_ begins
