@@ -1,5 +1,5 @@
 -- Names, and nodes of one token.
-use mathlib.Core.Path.{_≡_, refl, sym, _∙_, ap}
+use mathlib.Core.Path.{_≡_, refl, sym, _∙_, ap, subst}
 use mathlib.Core.Bool.{Bool, true, false, cond}
 use mathlib.Core.Option.{Option}
 use mathlib.Core.Option as Option
@@ -66,6 +66,11 @@ module _ (s : Setting) where
     name-rule w k kind from j l e h t f g =
         let x = name-said a (w .values) kind from j l e h t in
         last-rule w k kind (firstAlike (s .text) (s .tokens) from j) (x .1) f (λ n u d. g n u (rw (x .0) at d))
+
+    pub name-at : (w : World) (k : ℕ → World → Fate B) (kind from j payload : ℕ) {xs : List RowToken} {o : Outcome} → payload ≡ firstAlike (s .text) (s .tokens) from j → kind < 2 ^ 6 → isName kind ≡ true → j < length (s .tokens) → tokenKind (wordAt (s .tokens) j) ≡ from
+        → Fits s w xs → ((n : ℕ) (u : World) → Done s w u n (nameTree kind (lexemeOf s j .spelling)) → Fits s u xs → Sim P (k n u) o)
+        → Sim P (runs s (allocLastTokenAsNode kind payload) w k) o
+    name-at w k kind from j payload {o = o} q l e h t f g = subst (λ p. Sim P (runs s (allocLastTokenAsNode kind p) w k) o) (sym q) (name-rule w k kind from j l e h t f g)
 
     -- `try_parse_ident` beside a name that may be there.
     pub ident-rule : (w : World) (k : Option ℕ → World → Fate B) (h : Lexeme → List RowToken → Outcome) {xs : List RowToken} {m : Outcome} → Fits s w xs

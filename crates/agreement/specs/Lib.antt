@@ -3,4 +3,7 @@ pub mod Sim
 pub mod Steps
 pub mod Leaves
 pub mod Lists
+pub mod Closing
+pub mod Branches
+pub mod Definitions
 pub mod Statements

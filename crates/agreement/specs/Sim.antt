@@ -69,6 +69,20 @@ call s {A} {B} {P = P} p w k c {o} h g =
     let q : runs s {A = A} {B = B} p w k ≡ bindA (evalA (s .text) (s .tokens) (s .end) (s .bound) (s .readers) p w) k = run-is (s .text) (s .tokens) (s .end) (s .bound) (s .readers) p w k in
     subst (λ f. Sim P f (bind o c)) (sym q) (then k c (rw e at h) g)
 
+-- The same, where trees may be there.
+pub call-try : (s : Setting) {A B : Type 0} {Q : A → World → Outcome → Type 0} {P : B → World → Outcome → Type 0} (p : Prog A) (w : World) (k : A → World → Fate B) (c : Trees → List RowToken → Outcome) (z : Outcome) {o : Outcome}
+    → Sim Q (runs s p w ok) o → ((a : A) (u : World) → Q a u o → Sim P (k a u) (try o c z)) → Sim P (runs s p w k) (try o c z)
+unfolding try
+call-try s {A} {B} {Q} {P} p w k c z {o} h g =
+    let e : runs s p w ok ≡ evalA (s .text) (s .tokens) (s .end) (s .bound) (s .readers) p w = run-ok (s .text) (s .tokens) (s .end) (s .bound) (s .readers) p w in
+    let q : runs s {A = A} {B = B} p w k ≡ bindA (evalA (s .text) (s .tokens) (s .end) (s .bound) (s .readers) p w) k = run-is (s .text) (s .tokens) (s .end) (s .bound) (s .readers) p w k in
+    subst (λ f. Sim P f (try o c z)) (sym q) (go (rw e at h) g)
+  where
+    go : {f : Fate A} {o : Outcome} → Sim Q f o → ((a : A) (u : World) → Q a u o → Sim P (k a u) (try o c z)) → Sim P (bindA f k) (try o c z)
+    go (gives {a} {u} x) g = g a u x
+    go fails g = fails
+    go sinks g = sinks
+
 -- How many words values may take that are made of tokens: one, and one for each byte.
 unfoldable pub cost : List RowToken → ℕ
 cost [] = 0

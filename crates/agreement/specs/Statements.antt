@@ -20,8 +20,8 @@ use Rattle.definition.specs.Nodes.{allocNodeFrom, closeNodeAt, closeNode, updat
 use Rattle.definition.specs.Expressions.{pushOption, pushClosing, eats, tryParseExpr, parseExpr}
 use Rattle.definition.specs.Statements as Statements
 use Rattle.definition.specs.Statements.{StmtResult, statement, endExprOrStmt, endExpr, requiresSemi, Body, body, endExprTurn, stmtTurn, parseBlock, tryParseStmt, comptimeStmt, letStmt, exprStmt, whileStmt, tryParseWhile, letFlags, parseLetStmt, returnStmt, assignStmt}
-use Rattle.definition.specs.Abstract.{Node as Store, noNode, nodeAt, withWord, written, wordIn, newNode, World, Fate, ok, bindA, moveTo, withStore, withLink, evalA}
-use Rattle.definition.specs.Encodes.{keep, written-length, adopted-length}
+use Rattle.definition.specs.Abstract.{Node as Store, noNode, nodeAt, written, wordIn, newNode, World, Fate, ok, bindA, moveTo, withStore, withLink, evalA}
+use Rattle.definition.specs.Encodes.{written-length, adopted-length}
 use Rattle.chart.specs.Row.{Lexeme, RowToken, token, begins}
 use Rattle.chart.specs.Tree as Tree
 use Rattle.chart.specs.Tree.{Value, flags, Tree, Trees, node, none, _▸_, _⊕_, branch, listed, flag}
@@ -29,11 +29,11 @@ use Rattle.chart.specs.Chart.{isBlockLike}
 use Rattle.chart.specs.Parser as Chart
 use Rattle.chart.specs.Parser.{Outcome, if, on, bind, failed, readBindingName, readBinding, readExpression, readComptime, readStatement, readStatements, readBlock, push}
 use Rattle.agreement.specs.Run.{run, run-is, run-ok, turns}
-use Rattle.agreement.specs.Sim.{Sim, gives, fails, sinks, Made, made, call, Setting, runs, Fits, eat-rule, check-rule, check-hit, check-miss, eof-rule, eof-either, expect-rule, expect-hit, expect-miss, unexpected-rule}
-use Rattle.agreement.specs.Steps.{Ranked, Found, found, not-found, isFlagged, flagged, rootKind, isOdd, Open, Done, Agrees, Blocked, alloc-rule, alloc-here, push-rule, close-branch, update-rule, expr-rule, block-rule, here-rule}
+use Rattle.agreement.specs.Sim.{Sim, gives, fails, sinks, Made, made, Setting, runs, Fits, eat-rule, check-rule, check-hit, check-miss, eof-rule, eof-either, expect-rule, expect-hit, expect-miss, unexpected-rule}
+use Rattle.agreement.specs.Steps.{Ranked, Found, found, not-found, isFlagged, flagged, rootKind, isOdd, Open, Done, Agrees, both, Blocked, One, one, call-one, alloc-rule, alloc-here, push-rule, close-branch, update-rule, expr-rule, block-rule, here-rule}
 use Rattle.agreement.specs.Leaves.{expect-ident-rule}
 use Rattle.tree.specs.Stored.{said, isName}
-use Rattle.tree.specs.Grown.{size, ⊕-assoc, ⊕-none, Is, is, Old, Says, is-kept, are-kept, Built, Growing, Waiting, ahead, opened, ended, waits, waits-on, adopt}
+use Rattle.tree.specs.Grown.{size, ⊕-assoc, ⊕-none, Is, is, Old, Says, is-kept, are-kept, Built, Growing, Waiting, ahead, opened, ended, wait-ended, waits, waits-on, adopt}
 
 -- The flags of a let are the chart's.
 let-flags : (c m t : Bool) → letFlags c m t ≡ Tree.letFlags c m t
@@ -101,10 +101,6 @@ semi-same kind v ts us e = go (eqb kind Node.ComptimeBlock) (eqb kind Node.Error
 no-priority : Ranked 0 0
 no-priority = record { below = refl; same = λ j. rw (le-leb 0 j (omega arith), le-ltb (2 * j + 1) 0 (omega arith)) }
 
--- Both of two tests hold.
-both : (a b : Bool) → a ≡ true → b ≡ true → (a && b) ≡ true
-both a b e f = rw (e, f)
-
 module _ (s : Setting) where
   -- A tree that waits to be linked to an open node.
   abbrev pub Waits : World → World → Unfinished → ℕ → Tree → Type 0
@@ -130,7 +126,7 @@ module _ (s : Setting) where
         let z : length st ≡ length (v .store) + 1 = length-append (v .store) (new ∷ []) in
         h (record { node = length (v .store); last = 0 }) (withStore st v) refl
         (opened (s .text) (s .tokens) (v .store) (v .values) new (d .size-is) (d .old) (d .says) refl refl)
-        (waits (s .text) (s .tokens) (omega arith) d (omega (arith, z)) (λ i l. List·getD-append (v .store) (new ∷ []) noNode i (omega arith)) (λ i q y e. e) (omega arith))
+        (waits (s .text) (s .tokens) (omega arith) d (omega (arith, z)) (λ i l. List·getD-append (v .store) (new ∷ []) noNode i (omega arith)) (λ i q y e. e) (λ i m p. omega arith))
         (record { ahead = f .ahead; room = f .room; few = f .few; born = omega (arith, z, f .born); sound = f .sound })
 
     -- A tree that waits is linked.
@@ -157,14 +153,6 @@ module _ (s : Setting) (a : Agrees s) {B : Type 0} {P : B → World → Outcome 
       close-branch s w u₂ k x₂ o₂ e f₅ (λ n₁ z d₂ f₆.
       h n₁ z _ zs d₂ f₆ (omega arith)))))))
 
-module _ (s : Setting) where
-  -- One tree that was read.
-  pub data OneSince (st : List Store) (values : List ℕ) (xs : List RowToken) : ℕ → World → Trees → List RowToken → Type 0 where
-    one : {n : ℕ} {u : World} {t : Tree} {ys : List RowToken} → Built (s .text) (s .tokens) st values (u .store) (u .values) n t → Fits s u ys → length ys < length xs → OneSince st values xs n u (t ▸ none) ys
-
-  abbrev pub One : World → List RowToken → ℕ → World → Trees → List RowToken → Type 0
-  One w xs = OneSince (w .store) (w .values) xs
-
 module _ (s : Setting) (a : Agrees s) where
   -- What `parse_let_stmt` does after `mut` was looked for, and after the type.
   abbrev letEnd : Bool → Bool → Bool → Unfinished → Prog ℕ
@@ -176,40 +164,40 @@ module _ (s : Setting) (a : Agrees s) where
       Then (allocNodeFrom start Node.LetStmt (letFlags comptime mutable false)) (λ x. Then expectIdent (λ n. Then (pushChild x n) (λ y. Then (eat Token.Colon) (λ typed.
       Then (Branch typed (Then (parseExpr AllowAll) (λ n. pushChild y n)) (Give y)) (λ z. letEnd comptime mutable typed z)))))
 
-  -- The end of a let.
-  let-end : (w u : World) (x : Unfinished) (c m typed : Bool) (h : ℕ) (ts : Trees) (xs zs : List RowToken) → Open s w u x h 0 ts → Fits s u xs → length xs < length zs
-      → Sim (Made (One s w zs)) (runs s (letEnd c m typed x) u ok)
+  -- The end of a let; what is built since `w` is built since `from`, where the same was stored.
+  let-end : (from w u : World) (x : Unfinished) (c m typed : Bool) (h : ℕ) (ts : Trees) (xs zs : List RowToken) → ((n : ℕ) (z : World) (t : Tree) → Done s w z n t → Done s from z n t) → Open s w u x h 0 ts → Fits s u xs → length xs < length zs
+      → Sim (Made (One s from zs)) (runs s (letEnd c m typed x) u ok)
       (on Token.Equals xs (λ _ vs. bind (s .rows .expr true 0 vs) (λ t qs. on Token.Semicolon qs (λ _ rs. Chart.ok (branch Node.LetStmt (Tree.letFlags c m typed) (ts ⊕ t)) rs) failed)) failed)
   unfolding run branch
-  let-end w u x c m typed h ts xs zs o f l =
+  let-end from w u x c m typed h ts xs zs same o f l =
       update-rule s w u _ x Node.LetStmt (letFlags c m typed) o f (λ v o₁ f₁.
       expect-rule s v _ _ refl f₁ (λ j row ys q.
       expr-rule s a (moveTo (suc j) row v) _ _ AllowAll (q .fit) (λ n v₁ t ws d f₂ l₁.
       push-rule s w (moveTo (suc j) row v) v₁ _ x n o₁ d f₂ (λ x₁ v₂ o₂ f₃.
       expect-rule s v₂ _ _ refl f₃ (λ j₁ row₁ ys₁ q₁.
       close-branch s w (moveTo (suc j₁) row₁ v₂) _ x₁ o₂ (let-flagged c m typed) (q₁ .fit) (λ n₁ z d₂ f₄.
-      gives (made (one (rw (let-flags c m typed) at d₂) f₄ (omega (arith, q .shorter, q₁ .shorter))))))))))
+      gives (made (one (same n₁ z _ (rw (let-flags c m typed) at d₂)) f₄ (omega (arith, q .shorter, q₁ .shorter))))))))))
 
   -- A let after `mut`, or where there is none.
-  let-rest : (w : World) (start : ℕ) (c m : Bool) (xs zs : List RowToken) → Fits s w xs → length xs ≤ length zs
-      → Sim (Made (One s w zs)) (runs s (letRest start c m) w ok) (readBindingName (s .rows) c m xs)
+  let-rest : (from w : World) (start : ℕ) (c m : Bool) (xs zs : List RowToken) → ((n : ℕ) (z : World) (t : Tree) → Done s w z n t → Done s from z n t) → Fits s w xs → length xs ≤ length zs
+      → Sim (Made (One s from zs)) (runs s (letRest start c m) w ok) (readBindingName (s .rows) c m xs)
   unfolding run readBindingName _⊕_
-  let-rest w start c m xs zs f l =
+  let-rest from w start c m xs zs same f l =
       alloc-rule s w _ start Node.LetStmt (letFlags c m false) f (λ x u o f₁.
       expect-ident-rule s a u _ _ f₁ (λ n v j ys d f₂ l₁.
       push-rule s w u v _ x n o d f₂ (λ y z o₁ f₃.
       eat-rule s z _ _ refl f₃
       (λ j₁ row qs q. expr-rule s a (moveTo (suc j₁) row z) _ _ AllowAll (q .fit) (λ n₁ v₁ t ws d₁ f₄ l₂.
       push-rule s w (moveTo (suc j₁) row z) v₁ _ y n₁ o₁ d₁ f₄ (λ y₁ z₁ o₂ f₅.
-      let-end w z₁ y₁ c m true _ _ ws zs o₂ f₅ (omega (arith, q .shorter)))))
-      (λ _ i. let-end w (moveTo i (z .row) z) y c m false _ _ ys zs o₁ f₃ (omega arith)))))
+      let-end from w z₁ y₁ c m true _ _ ws zs same o₂ f₅ (omega (arith, q .shorter)))))
+      (λ _ i. let-end from w (moveTo i (z .row) z) y c m false _ _ ys zs same o₁ f₃ (omega arith)))))
 
   -- A let statement.
   pub let-agrees : (w : World) (start : ℕ) (c : Bool) (xs : List RowToken) → Fits s w xs → Sim (Made (One s w xs)) (runs s (parseLetStmt start c) w ok) (readBinding (s .rows) c xs)
   unfolding run parseLetStmt readBinding
   let-agrees w start c xs f =
-      eat-rule s w _ _ refl f (λ j row ys q. let-rest (moveTo (suc j) row w) start c true ys xs (q .fit) (omega (arith, q .shorter)))
-      (λ _ i. let-rest (moveTo i (w .row) w) start c false xs xs f (omega arith))
+      eat-rule s w _ _ refl f (λ j row ys q. let-rest w (moveTo (suc j) row w) start c true ys xs (λ n z t d. d) (q .fit) (omega (arith, q .shorter)))
+      (λ _ i. let-rest w (moveTo i (w .row) w) start c false xs xs (λ n z t d. d) f (omega arith))
 
 module _ (s : Setting) (a : Agrees s) {B : Type 0} {P : B → World → Outcome → Type 0} where
   -- A return statement.
@@ -243,10 +231,7 @@ module _ (s : Setting) (a : Agrees s) {B : Type 0} {P : B → World → Outcome 
   pub let-rule : (w : World) (k : ℕ → World → Fate B) (c : Trees → List RowToken → Outcome) (start : ℕ) (comptime : Bool) (xs : List RowToken) → Fits s w xs
       → ((n : ℕ) (u : World) (t : Tree) (ys : List RowToken) → Done s w u n t → Fits s u ys → length ys < length xs → Sim P (k n u) (c (t ▸ none) ys))
       → Sim P (runs s (parseLetStmt start comptime) w k) (bind (readBinding (s .rows) comptime xs) c)
-  let-rule w k c start comptime xs f h = call s (parseLetStmt start comptime) w k c (let-agrees s a w start comptime xs f) go
-    where
-      go : (n : ℕ) (u : World) (ts : Trees) (ys : List RowToken) → One s w xs n u ts ys → Sim P (k n u) (c ts ys)
-      go n u ts ys (one {t = t} d g l) = h n u t ys d g l
+  let-rule w k c start comptime xs f h = call-one s (parseLetStmt start comptime) w k c (let-agrees s a w start comptime xs f) h
 
 module _ (s : Setting) where
   -- What `try_parse_stmt` comes to, where the chart goes on after a statement with `c`: a statement; an expression that may close the block or
@@ -387,39 +372,9 @@ module _ (text tokens : List ℕ) where
         });
       }
 
-  -- The end of a node is set.
-  waits-ended : {st cur : List Store} {more : List ℕ} {p c : ℕ} {t : Tree} (n e : ℕ) → Waiting text tokens st cur more p c t → Waiting text tokens st (written n endWord e cur) more p c t
-  unfolding written
-  waits-ended {cur = cur} {p = p} {c = c} n e w =
-      let z : length (written n endWord e cur) ≡ length cur = written-length n endWord e cur in
-      record {
-        low = w .low;
-        high = rw z (w .high);
-        root = keep (λ (x : Store). x .own) cur n (withWord endWord e (nodeAt cur n)) noNode refl c ∙ w .root;
-        apart = w .apart;
-        tree = is-kept text tokens (w .tree) (record {
-          within = λ i x. (x .0, rw z (x .1), x .2);
-          head = λ i x. keep (λ (y : Store). y .head) cur n (withWord endWord e (nodeAt cur n)) noNode refl i;
-          kids = λ i x. keep (λ (y : Store). y .kids) cur n (withWord endWord e (nodeAt cur n)) noNode refl i;
-          says = λ k q v x. x;
-        });
-      }
-
   -- What was read after a node was opened waits for it.
   young-waits : {st cur now : List Store} {values more most : List ℕ} {p l h u c : ℕ} {t : Tree} {ts : Trees} → Growing text tokens st values cur more p l h u ts → Built text tokens cur more now most c t → Waiting text tokens st now most p c t
-  young-waits g b =
-      record {
-        low = omega (arith, g .low, g .high, b .low);
-        high = b .high;
-        root = b .root;
-        apart = omega (arith, g .high, b .low);
-        tree = is-kept text tokens (b .tree) (record {
-          within = λ i x. (omega (arith, g .low, g .high, x .0), x .1, omega (arith, g .high, x .0));
-          head = λ i x. refl;
-          kids = λ i x. refl;
-          says = λ k q v x. x;
-        });
-      }
+  young-waits g b = waits text tokens (omega (arith, g .low, g .high)) b (omega arith) (λ i l. refl) (λ k q v x. x) (λ i m p. omega (arith, g .high))
 
   -- What waits for a node waits for an older one as well.
   waits-under : {base st cur : List Store} {more : List ℕ} {p q c : ℕ} {t : Tree} → length base ≤ length st → p < length st → Waiting text tokens st cur more q c t → Waiting text tokens base cur more p c t
@@ -601,11 +556,11 @@ module _ (s : Setting) where
       let block : Open s w v p h (size tree + size t) none = ahead (s .text) (s .tokens) (omega (arith, g .size-is)) (g .old) (g .says) (omega (arith, o .size-is, g .size-is)) o in
       let v₁ = withStore (written (x .node) endWord (v .at) (v .store)) v in
       let low : length (w .store) ≤ x .node = omega (arith, g .low) in
-      adopt-rule s w v₁ (λ y z. runs s (pushClosing y (x .node) (Option.some c)) z k) p (x .node) (size t) (ended (s .text) (s .tokens) (x .node) (v .at) low block) refl (waits-ended (s .text) (s .tokens) (x .node) (v .at) list) (omega (arith, o .below, g .low)) (ended-fit v (x .node) (v .at) f) (λ o₁ f₁.
+      adopt-rule s w v₁ (λ y z. runs s (pushClosing y (x .node) (Option.some c)) z k) p (x .node) (size t) (ended (s .text) (s .tokens) (x .node) (v .at) low block) refl (wait-ended (s .text) (s .tokens) (x .node) (v .at) list) (omega (arith, o .below, g .low)) (ended-fit v (x .node) (v .at) f) (λ o₁ f₁.
       let v₂ = withLink (p .node) (p .last) (x .node) v₁ in
       let e = wordIn c firstWord (v₂ .store) in
       adopt-rule s w (withStore (written (x .node) endWord e (v₂ .store)) v₂) k (record { node = p .node; last = x .node }) c 0 (ended (s .text) (s .tokens) (x .node) e low o₁) (omega arith)
-      (waits-ended (s .text) (s .tokens) (x .node) e (waits-on (s .text) (s .tokens) (x .node) (omega arith) (waits-ended (s .text) (s .tokens) (x .node) (v .at) expr))) l (ended-fit v₂ (x .node) e f₁) (λ o₂ f₂.
+      (wait-ended (s .text) (s .tokens) (x .node) e (waits-on (s .text) (s .tokens) (x .node) (omega arith) (wait-ended (s .text) (s .tokens) (x .node) (v .at) expr))) l (ended-fit v₂ (x .node) e f₁) (λ o₂ f₂.
       next _ _ o₂ f₂))
 
   -- Whether there is one or not.

@@ -16,7 +16,7 @@ use Rattle.words.specs.Words.{tokenKind, nodeKind, nodePayload, nodeHead}
 use Rattle.literals.specs.Spelling.{wordAt, spelling, firstAlike}
 use Rattle.definition.specs.declared.Mode.{Mode}
 use Rattle.definition.specs.declared.Unfinished.{Unfinished}
-use Rattle.definition.specs.Prog.{Then, endWord, headWord, enterExpr, enterBlock}
+use Rattle.definition.specs.Prog.{Prog, Then, endWord, headWord, enterExpr, enterBlock}
 use Rattle.definition.specs.Nodes.{allocNodeFrom, allocNode, closeNodeAt, closeNode, updateKind, pushChild}
 use Rattle.definition.specs.Expressions.{unwrapOrError, tryParseExpr, parseExpr, blockHere, allowsStructLiteral}
 use Rattle.definition.specs.Abstract as Abstract
@@ -30,7 +30,7 @@ use Rattle.chart.specs.Parser as Chart
 use Rattle.tree.specs.Stored.{said, isName}
 use Rattle.tree.specs.Grown.{size, sizes, Built, Growing, opened, closed, push, ended, rekinded}
 use Rattle.agreement.specs.Run.{run}
-use Rattle.agreement.specs.Sim.{Sim, gives, fails, sinks, Made, made, then, Setting, runs, Fits, unexpected-rule}
+use Rattle.agreement.specs.Sim.{Sim, gives, fails, sinks, Made, made, then, call, Setting, runs, Fits, unexpected-rule}
 
 -- A kind whose payload is flags or an operator, where both fit their parts.
 unfoldable pub isFlagged : ℕ → ℕ → Bool
@@ -68,7 +68,7 @@ pub record Ranked (min level : ℕ) : Type 0 where
   pub below : ltb min 21 ≡ true
   pub same : (j : ℕ) → ltb (2 * j + 1) min ≡ not (leb level j)
 
-both : (a b : Bool) → a ≡ true → b ≡ true → (a && b) ≡ true
+pub both : (a b : Bool) → a ≡ true → b ≡ true → (a && b) ≡ true
 both a b e f = rw (e, f)
 
 module _ (s : Setting) where
@@ -81,20 +81,25 @@ module _ (s : Setting) where
   Done w u n t = Built (s .text) (s .tokens) (w .store) (w .values) (u .store) (u .values) n t
 
   -- Another store, as long or longer.
-  store-fit : (w u : World) {xs : List RowToken} → Fits s w xs → length (w .store) ≤ length (u .store) → u .values ≡ w .values → u .row ≡ w .row → u .sane ≡ w .sane → Fits s u xs
+  pub store-fit : (w u : World) {xs : List RowToken} → Fits s w xs → length (w .store) ≤ length (u .store) → u .values ≡ w .values → u .row ≡ w .row → u .sane ≡ w .sane → Fits s u xs
   store-fit w u f l v r s = rw (v, r, s) (record { ahead = f .ahead; room = f .room; few = f .few; born = omega (arith, f .born); sound = f .sound })
 
   module _ {B : Type 0} {P : B → World → Outcome → Type 0} where
-    -- A node is opened.
+    -- A node is opened; the run stands where it stood.
+    pub alloc-at : (w : World) (k : Unfinished → World → Fate B) (start kind payload : ℕ) {xs : List RowToken} {o : Outcome} → Fits s w xs
+        → ((x : Unfinished) (u : World) → u .at ≡ w .at → Open w u x (nodeHead kind payload) 0 none → Fits s u xs → Sim P (k x u) o)
+        → Sim P (runs s (allocNodeFrom start kind payload) w k) o
+    unfolding run allocNodeFrom
+    alloc-at w k start kind payload f h =
+        let new = newNode start kind payload in
+        h (record { node = length (w .store); last = 0 }) (withStore (w .store ++ (new ∷ [])) w) refl
+        (opened (s .text) (s .tokens) {st = w .store} {u = 0} (w .store) (w .values) new (omega arith) (λ i l. refl) (λ a b c d. d) refl refl)
+        (store-fit w (withStore (w .store ++ (new ∷ [])) w) f (omega (arith, length-append (w .store) (new ∷ []))) refl refl refl)
+
     pub alloc-rule : (w : World) (k : Unfinished → World → Fate B) (start kind payload : ℕ) {xs : List RowToken} {o : Outcome} → Fits s w xs
         → ((x : Unfinished) (u : World) → Open w u x (nodeHead kind payload) 0 none → Fits s u xs → Sim P (k x u) o)
         → Sim P (runs s (allocNodeFrom start kind payload) w k) o
-    unfolding run allocNodeFrom
-    alloc-rule w k start kind payload f h =
-        let new = newNode start kind payload in
-        h (record { node = length (w .store); last = 0 }) (withStore (w .store ++ (new ∷ [])) w)
-        (opened (s .text) (s .tokens) {st = w .store} {u = 0} (w .store) (w .values) new (omega arith) (λ i l. refl) (λ a b c d. d) refl refl)
-        (store-fit w (withStore (w .store ++ (new ∷ [])) w) f (omega (arith, length-append (w .store) (new ∷ []))) refl refl refl)
+    alloc-rule w k start kind payload f h = alloc-at w k start kind payload f (λ x u e. h x u)
 
     pub alloc-here : (w : World) (k : Unfinished → World → Fate B) (kind payload : ℕ) {xs : List RowToken} {o : Outcome} → Fits s w xs
         → ((x : Unfinished) (u : World) → Open w u x (nodeHead kind payload) 0 none → Fits s u xs → Sim P (k x u) o)
@@ -151,6 +156,18 @@ module _ (s : Setting) where
   -- A block of this kind: its node with the list of statements and the closing expression.
   abbrev pub Blocked : World → ℕ → List RowToken → ℕ → World → Outcome → Type 0
   Blocked w kind xs = Made (λ n u ts ys. Done w u n (node kind (flags 0) ts) × Fits s u ys × (length ys < length xs))
+
+  -- One tree.
+  pub data One (w : World) (xs : List RowToken) (n : ℕ) (u : World) : Trees → List RowToken → Type 0 where
+    one : {t : Tree} {ys : List RowToken} → Done w u n t → Fits s u ys → length ys < length xs → One w xs n u (t ▸ none) ys
+
+  -- A program that reads one, and what comes after it.
+  pub call-one : {B : Type 0} {P : B → World → Outcome → Type 0} (p : Prog ℕ) (w : World) (k : ℕ → World → Fate B) (c : Trees → List RowToken → Outcome) {xs : List RowToken} {o : Outcome} → Sim (Made (One w xs)) (runs s p w ok) o
+      → ((n : ℕ) (u : World) (t : Tree) (ys : List RowToken) → Done w u n t → Fits s u ys → length ys < length xs → Sim P (k n u) (c (t ▸ none) ys)) → Sim P (runs s p w k) (bind o c)
+  call-one {P = P} p w k c {xs} h g = call s p w k c h (λ n u ts ys. go)
+    where
+      go : {n : ℕ} {u : World} {ts : Trees} {ys : List RowToken} → One w xs n u ts ys → Sim P (k n u) (c ts ys)
+      go {n} {u} (one {t} {ys} d f l) = g n u t ys d f l
 
   -- The readers one level deeper agree, and payloads have room for the numbers of tokens.
   pub record Agrees : Type 0 where

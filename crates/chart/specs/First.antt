@@ -6,7 +6,7 @@ use Prim.Native.Nat.{ℕ}
 use lib.Dec.{eqb}
 use borrow.Author.Tests.{eqb-true}
 use Rattle.words.specs.Token
-use Rattle.chart.specs.Row.{RowToken, begins, token}
+use Rattle.chart.specs.Row.{RowToken, begins, token, isOver}
 use Rattle.chart.specs.Tree.{Trees}
 use Rattle.chart.specs.Chart
 use Rattle.chart.specs.Chart.{operatorOf, isBlockLike, Nonterminal, file, declarations, declaration, import, path, items, item, level, postfix, operand, strings, arguments, elements, types, fields, elseIfs, arms, arm, signature, parameters, parameter, parameterType, structBody, methods, block, statements, statement, binding, bindingName}
@@ -56,6 +56,11 @@ apart p K (token k v ∷ xs) h e = go (eqb k K) refl
     go : (b : Bool) → eqb k K ≡ b → eqb k K ≡ false
     go true q = clash e (subst (λ n. p n ≡ false) (sym (eqb-true k K q)) h)
     go false q = q
+
+pub not-over : (p : ℕ → Bool) (xs : List RowToken) → heads p xs ≡ true → isOver xs ≡ false
+unfolding heads isOver
+not-over p [] e = absurd (false≢true e)
+not-over p (x ∷ xs) e = refl
 
 abbrev pub all : (ℕ → Bool) → List ℕ → Bool
 all q [] = true

@@ -9,7 +9,7 @@ use Rattle.words.specs.Token
 use Rattle.words.specs.Node
 use Rattle.words.specs.Flag
 use Rattle.words.specs.UnaryOp
-use Rattle.chart.specs.Row.{Lexeme, RowToken, begins, token}
+use Rattle.chart.specs.Row.{Lexeme, RowToken, begins, isOver, token}
 use Rattle.chart.specs.Tree.{Trees, _⊕_, branch, listed, flag, letFlags, named, builtinNamed, anyType, numeral, decoded, decodedHex, quiet, stringTree, flags, name, number, bytes, node, none, _▸_}
 use Rattle.chart.specs.Chart.{Role, operatorOf, prefixLevel, binaryTree, isBlockLike, notBinary, binaryOf, block}
 
@@ -123,10 +123,12 @@ readArm R xs =
     (on Token.FatArrow ys (λ _ ws. bind (R .expr true 0 ws) (λ t vs. ok (branch Node.MatchFallbackArm 0 t) vs)) failed))
     (bind (R .expr true 0 xs) (λ t ys. on Token.FatArrow ys (λ _ zs. bind (R .expr true 0 zs) (λ u ws. ok (branch Node.MatchArm 0 (t ⊕ u)) ws)) failed))
 
+-- No arm is tried at the end of the row, where trying would count for the depth.
 unfoldable pub readArms : Readers → ℕ → List RowToken → Outcome
 readArms R zero xs = failed
 readArms R (suc n) xs = on Token.RightCurly xs (λ _ ys. ok none ys)
-    (bind (readArm R xs) (λ t ys. on Token.Comma ys (λ _ zs. bind (readArms R n zs) (λ us ws. ok (t ⊕ us) ws)) (on Token.RightCurly ys (λ _ zs. ok t zs) failed)))
+    (if (isOver xs) failed
+    (bind (readArm R xs) (λ t ys. on Token.Comma ys (λ _ zs. bind (readArms R n zs) (λ us ws. ok (t ⊕ us) ws)) (on Token.RightCurly ys (λ _ zs. ok t zs) failed))))
 
 unfoldable pub readParameterType : Readers → List RowToken → Outcome
 readParameterType R xs = on Token.Dollar xs (λ _ ys. on Token.Identifier ys (λ w zs. ok (anyType w) zs) failed) (bind (R .expr true 0 xs) (λ t ys. ok t ys))

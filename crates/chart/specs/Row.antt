@@ -1,5 +1,5 @@
 -- The row of a text: what the chart derives.
-use mathlib.Core.Bool.{Bool, false, cond, _||_}
+use mathlib.Core.Bool.{Bool, true, false, cond, _||_}
 use mathlib.Core.List.{List, [], _∷_}
 use Prim.Native.Nat.{ℕ, suc}
 use lib.Dec.{eqb}
@@ -35,3 +35,8 @@ row text tokens = rowFrom text tokens 0 tokens
 unfoldable pub begins : ℕ → List RowToken → Bool
 begins K [] = false
 begins K (token k v ∷ xs) = eqb k K
+
+-- Whether no token is left.
+unfoldable pub isOver : List RowToken → Bool
+isOver [] = true
+isOver (x ∷ xs) = false

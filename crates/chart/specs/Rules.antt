@@ -18,7 +18,7 @@ use Rattle.chart.specs.Chart.{operatorOf, prefixLevel, binaryTree, isBlo
 use Rattle.chart.specs.Parser.{Outcome, if, on, bind, try, Readers, push, prepend, readList, readElements, readFields, readOn, readStrings, readElseIfs, readArm, readArms, readParameterType, readParameter, readParameters, readSignature, readMethods, readStructBody, readRound, readStruct, readOperand, readPrefix, readLevel, readBindingName, readBinding, readExpression, readComptime, readStatement, readStatements, readBlock, readers, goesOn, readPath, readItem, readItems, readImport, readDeclaration, readDeclarations, readFile, ok, nothing}
 use Rattle.chart.specs.Outcome.{Meets, good-ok, weaken, good-trans, if-true, if-false, on-hit, on-miss, bind-good, try-good, try-none, same, sunk}
 use Rattle.chart.specs.Laws.{below, stop, to-true, stop-mono, stop-top, opStop, stop-intro, stop-elim, op-hit, op-miss, ended}
-use Rattle.chart.specs.First.{among, operandStart, expressionStart, armStart, statementStart, statementsStart, methodsStart, declarationStart, braceStart, nameStart, heads, apart, widen, name-at, brace-at, brace-stops, meth-stops, follows, calm, calm-fol, fol-calm, fol-else, fol-block, calm-str, calm-hstr, calms, First, least}
+use Rattle.chart.specs.First.{among, operandStart, expressionStart, armStart, statementStart, statementsStart, methodsStart, declarationStart, braceStart, nameStart, heads, apart, widen, name-at, brace-at, brace-stops, meth-stops, follows, calm, calm-fol, fol-calm, fol-else, fol-block, calm-str, calm-hstr, calms, First, least, not-over}
 
 pub back : (d : ℕ) {s : ℕ} → pred d ≤ s → d ≤ suc s
 back zero h = omega arith
@@ -616,7 +616,7 @@ r-arms-last {xs} D = record {
   first = tt;
   takes = omega arith;
   size = D .size;
-  claim = λ d n l. fuelled (readArms (readers d)) _ n l (λ i l. on-miss _ _ _ _ (apart (among armStart) Token.RightCurly xs refl (D .first)) (bind-good _ (weaken (λ b. omega arith) (D .claim d refl refl)) (on-miss _ _ _ _ refl (on-hit _ _ _ _ _ (good-ok)))));
+  claim = λ d n l. fuelled (readArms (readers d)) _ n l (λ i l. on-miss _ _ _ _ (apart (among armStart) Token.RightCurly xs refl (D .first)) (if-false _ _ _ (not-over (among armStart) xs (D .first)) (bind-good _ (weaken (λ b. omega arith) (D .claim d refl refl)) (on-miss _ _ _ _ refl (on-hit _ _ _ _ _ (good-ok))))));
 }
 
 pub r-arms-more : {v : Lexeme} {xs ys zs : List RowToken} {t us : Trees} → Read arm xs (token Token.Comma v ∷ ys) t → Read arms ys zs us → Read arms xs zs (t ⊕ us)
@@ -625,7 +625,7 @@ r-arms-more {xs} D E = record {
   first = tt;
   takes = omega arith;
   size = D .size + E .size;
-  claim = λ d n l. fuelled (readArms (readers d)) _ n l (λ i l. on-miss _ _ _ _ (apart (among armStart) Token.RightCurly xs refl (D .first)) (bind-good _ (weaken (λ b. omega arith) (D .claim d refl refl)) (on-hit _ _ _ _ _ (bind-good _ (weaken (λ b. omega arith) (E .claim d i (omega arith))) (good-ok)))));
+  claim = λ d n l. fuelled (readArms (readers d)) _ n l (λ i l. on-miss _ _ _ _ (apart (among armStart) Token.RightCurly xs refl (D .first)) (if-false _ _ _ (not-over (among armStart) xs (D .first)) (bind-good _ (weaken (λ b. omega arith) (D .claim d refl refl)) (on-hit _ _ _ _ _ (bind-good _ (weaken (λ b. omega arith) (E .claim d i (omega arith))) (good-ok))))));
 }
 
 pub r-arm-else : {v w : Lexeme} {xs ys : List RowToken} {t : Trees} → Read (level true 0) xs ys t → Read arm (token Token.Else v ∷ token Token.FatArrow w ∷ xs) ys (branch Node.MatchFallbackArm 0 t)

@@ -150,7 +150,7 @@ module _ (R : Readers) (S : Sound R) where
   s-arms zero xs ys t e = not-fail e
   s-arms (suc n) xs ws us e = on-elim (λ xs. Derives arms xs ws us) _ _ _ _ e
       (λ v zs e. ret e Chart.arms-end)
-      (λ _ e. bind-elim _ _ e λ t ys q e. on-elim (λ ys. Derives arm xs ys t → Derives arms xs ws us) _ _ _ _ e
+      (λ _ e. if-elim _ _ _ e (λ _ e. not-fail e) λ _ e. bind-elim _ _ e λ t ys q e. on-elim (λ ys. Derives arm xs ys t → Derives arms xs ws us) _ _ _ _ e
       (λ v zs e D. bind-elim _ _ e (λ gs vs q e. ret e (Chart.arms-more D (s-arms n zs vs gs q))))
       (λ _ e. need (λ ys. Derives arm xs ys t → Derives arms xs ws us) _ _ _ e (λ v zs e D. ret e (Chart.arms-last D)))
       (s-arm xs ys t q))

@@ -205,17 +205,17 @@ module _ (text tokens : List ℕ) where
     pub apart : c ≢ p
     pub tree : Is cur more (Beside st cur p) c t
 
-  -- What was built waits, for a node that was opened since.
-  pub waits : {base st cur now : List Node} {values more most : List ℕ} {p c : ℕ} {t : Tree} → length base ≤ length st → Built st values cur more c t → length cur ≤ length now → Old cur now → Says more most → length cur ≤ p
+  -- What was built waits, for a node that is not among its own.
+  pub waits : {base st cur now : List Node} {values more most : List ℕ} {p c : ℕ} {t : Tree} → length base ≤ length st → Built st values cur more c t → length cur ≤ length now → Old cur now → Says more most → ((i : ℕ) → length st ≤ i → i < length cur → i ≢ p)
       → Waiting base now most p c t
   waits {base} {st} {cur} {now} {p = p} {c = c} l b len o says q =
       record {
         low = omega (arith, b .low);
         high = omega (arith, b .high);
         root = ap (λ (x : Node). x .own) (o c (b .high)) ∙ b .root;
-        apart = omega (arith, b .high);
+        apart = q c (b .low) (b .high);
         tree = is-kept (b .tree) (record {
-          within = λ i x. (omega (arith, x .0), omega (arith, x .1), omega (arith, x .1));
+          within = λ i x. (omega (arith, x .0), omega (arith, x .1), q i (x .0) (x .1));
           head = λ i x. ap (λ (y : Node). y .head) (o i (x .1));
           kids = λ i x. ap (λ (y : Node). y .kids) (o i (x .1));
           says = says;
@@ -359,4 +359,40 @@ module _ (text tokens : List ℕ) where
         below = rw z (g .below);
         kids = rw (kids-written n endWord e cur p) (are-kept (g .kids) stays);
         size-is = rw z (g .size-is);
+      }
+
+  -- Nor of one that waits.
+  pub wait-ended : {st cur : List Node} {more : List ℕ} {p c : ℕ} {t : Tree} (n e : ℕ) → Waiting st cur more p c t → Waiting st (written n endWord e cur) more p c t
+  wait-ended {st} {cur} {more} {p} {c} n e w =
+      let z : length (written n endWord e cur) ≡ length cur = written-length n endWord e cur in
+      let stays : Kept cur (written n endWord e cur) more more (Beside st cur p) (Beside st (written n endWord e cur) p) = record {
+        within = λ i x. (x .0, rw z (x .1), x .2);
+        head = λ i x. head-ended n e cur i;
+        kids = λ i x. kids-written n endWord e cur i;
+        says = λ k q v x. x;
+      } in
+      record {
+        low = w .low;
+        high = rw z (w .high);
+        root = own-written n endWord e cur c ∙ w .root;
+        apart = w .apart;
+        tree = is-kept (w .tree) stays;
+      }
+
+  -- The kind of the node that it waits for is set anew.
+  pub wait-rekinded : {st cur : List Node} {more : List ℕ} {p c : ℕ} {t : Tree} (new : ℕ) → Waiting st cur more p c t → Waiting st (written p headWord new cur) more p c t
+  wait-rekinded {st} {cur} {more} {p} {c} new w =
+      let z : length (written p headWord new cur) ≡ length cur = written-length p headWord new cur in
+      let stays : Kept cur (written p headWord new cur) more more (Beside st cur p) (Beside st (written p headWord new cur) p) = record {
+        within = λ i x. (x .0, rw z (x .1), x .2);
+        head = λ i x. ap (λ (y : Node). y .head) (other-written p headWord new cur i (x .2));
+        kids = λ i x. kids-written p headWord new cur i;
+        says = λ k q v x. x;
+      } in
+      record {
+        low = w .low;
+        high = rw z (w .high);
+        root = own-written p headWord new cur c ∙ w .root;
+        apart = w .apart;
+        tree = is-kept (w .tree) stays;
       }
