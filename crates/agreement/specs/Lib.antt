@@ -7,3 +7,4 @@ pub mod Closing
 pub mod Branches
 pub mod Definitions
 pub mod Statements
+pub mod Declarations

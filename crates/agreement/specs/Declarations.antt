@@ -1,0 +1,118 @@
+-- Declarations and the file.
+use mathlib.Core.Path.{_≡_, refl, sym, _∙_, ap}
+use mathlib.Core.Bool.{Bool, true, false, cond, not, _&&_, _||_}
+use mathlib.Core.Option.{Option}
+use mathlib.Core.Option as Option
+use mathlib.Core.List.{List, [], _∷_, _++_}
+use Prim.Native.Nat.{ℕ, zero, suc, _+_, _<_, _≤_, _^_}
+use native.Mathlib.Omega.{arith}
+use lib.Dec.{eqb, ltb}
+use lib.ListN.{length}
+use Rattle.words.specs.Token
+use Rattle.words.specs.Node
+use Rattle.words.specs.Flag
+use Rattle.words.specs.Report
+use Rattle.words.specs.Words.{nodeHead}
+use Rattle.definition.specs.declared.Mode.the-variants.{AllowAll}
+use Rattle.definition.specs.declared.Unfinished.{Unfinished}
+use Rattle.definition.specs.Prog.{Turn, again, stop, Prog, Act, Give, Then, Branch, Loop, before, emitAndMark}
+use Rattle.definition.specs.Tokens.{constDefExprRecovery, contains, check, eat, eof, emitUnexpected, skipUntilDeclStart, expect, expectCheckRecovery, parseDelimited}
+use Rattle.definition.specs.Nodes.{allocNodeFrom, allocNode, closeNode, updateKind, pushChild, expectIdent}
+use Rattle.definition.specs.Expressions.{parseExpr}
+use Rattle.definition.specs.Declarations.{parseConstDecl, parseImportDecl, noDecl, skipUnlessEof, parseDecl, declTurn, parseFile}
+use Rattle.definition.specs.Abstract.{Seen, World, Fate, ok, fail, moveTo}
+use Rattle.chart.specs.Row.{Lexeme, RowToken, token, begins}
+use Rattle.chart.specs.Tree.{Tree, Trees, flags, node, none, _▸_, _⊕_, branch, named}
+use Rattle.chart.specs.Parser.{Outcome, if, on, bind, failed, readImport, readDeclaration, readDeclarations, readFile}
+use Rattle.chart.specs.Parser as Chart
+use Rattle.agreement.specs.Run.{run, turns}
+use Rattle.agreement.specs.Sim.{Sim, gives, fails, sinks, Made, made, mapped, call, Setting, runs, lexemeOf, Fits, Taken, peek-rule, eat-rule, eof-rule, eof-either, expect-rule, unexpected-rule}
+use Rattle.agreement.specs.Steps.{isFlagged, Open, Done, Agrees, alloc-rule, push-rule, close-branch, update-rule, expr-rule, block-rule}
+use Rattle.agreement.specs.Leaves.{expect-ident-rule}
+use Rattle.tree.specs.Stored.{isName}
+
+module _ (s : Setting) where
+  -- `expect_check_recovery` beside a token that has to be there.
+  recovery-rule : {B : Type 0} {P : B → World → Outcome → Type 0} (w : World) (k : Bool → World → Fate B) (recovery : List ℕ) {K : ℕ} {xs : List RowToken} (h : Lexeme → List RowToken → Outcome) → eqb Token.Eof K ≡ false → Fits s w xs
+      → ((j : ℕ) (row : List Seen) (ys : List RowToken) → Taken s K w xs j row ys → Sim P (k true (moveTo (suc j) row w)) (h (lexemeOf s j) ys))
+      → Sim P (runs s (expectCheckRecovery K recovery) w k) (on K xs h failed)
+  unfolding run expectCheckRecovery
+  recovery-rule {B} {P} w k recovery {K} {xs} h n f hit =
+      eat-rule s w _ h n f hit (λ _ i. peek-rule s (moveTo i (w .row) w) kept f (λ i₁ e. go i₁ (contains recovery Token.Eof && ltb 0 i₁)) (λ j kind ys e ne. go j (contains recovery kind && ltb 0 j)))
+    where
+      kept : ℕ → World → Fate B
+      kept kind u = elim (contains recovery kind && ltb 0 (u .at)) [ true ↦ fail | false ↦ runs s emitUnexpected u (λ _ v. k false v) ]
+
+      go : (i : ℕ) (b : Bool) → Sim P (elim b [ true ↦ fail | false ↦ runs s emitUnexpected (moveTo i (w .row) w) (λ _ v. k false v) ]) failed
+      go i true = fails
+      go i false = unexpected-rule s (moveTo i (w .row) w) _ f
+
+  -- A node that stands for what was read.
+  abbrev pub Whole : World → List RowToken → ℕ → World → Trees → List RowToken → Type 0
+  Whole w xs n u ts ys = (t : Tree) × (ts ≡ t ▸ none) × Done s w u n t × Fits s u ys × (length ys < length xs)
+
+module _ (s : Setting) (a : Agrees s) where
+  -- ---- constants
+
+  -- From `=` on.
+  abbrev constEnd : Unfinished → Prog ℕ
+  constEnd x = Then (expectCheckRecovery Token.Equals constDefExprRecovery) (λ _. Then (parseExpr AllowAll) (λ n. Then (pushChild x n) (λ y. Then (expectCheckRecovery Token.Semicolon constDefExprRecovery) (λ _. closeNode y))))
+
+  const-end : (w u : World) (x : Unfinished) (payload : ℕ) (ts : Trees) (xs zs : List RowToken) → isFlagged Node.ConstDecl payload ≡ true → Open s w u x (nodeHead Node.ConstDecl payload) 0 ts → Fits s u xs → length xs ≤ length zs
+      → Sim (Made (Whole s w zs)) (runs s (constEnd x) u ok)
+      (on Token.Equals xs (λ _ qs. bind (s .rows .expr true 0 qs) (λ t rs. on Token.Semicolon rs (λ _ ss. Chart.ok (branch Node.ConstDecl payload (ts ⊕ t)) ss) failed)) failed)
+  unfolding run branch
+  const-end w u x payload ts xs zs e o f l =
+      recovery-rule s u _ constDefExprRecovery _ refl f (λ j row qs t.
+      expr-rule s a (moveTo (suc j) row u) _ _ AllowAll (t .fit) (λ n v t₁ rs d f₁ l₁.
+      push-rule s w (moveTo (suc j) row u) v _ x n o d f₁ (λ y z o₁ f₂.
+      recovery-rule s z _ constDefExprRecovery _ refl f₂ (λ j₁ row₁ ss t₂.
+      close-branch s w (moveTo (suc j₁) row₁ z) ok y o₁ e (t₂ .fit) (λ m q d₁ f₃.
+      gives (made (_, refl, d₁, f₃, omega (arith, t .shorter, t₂ .shorter))))))))
+
+  pub const-rule : (w : World) (start : ℕ) (xs : List RowToken) → Fits s w xs
+      → Sim (Made (Whole s w xs)) (runs s (parseConstDecl start) w ok)
+      (on Token.Identifier xs (λ v zs.
+      on Token.Colon zs (λ _ ws. bind (s .rows .expr true 0 ws) (λ q vs. on Token.Equals vs (λ _ qs. bind (s .rows .expr true 0 qs) (λ t rs. on Token.Semicolon rs (λ _ ss. Chart.ok (branch Node.ConstDecl Flag.ConstDecl-typed (named v ⊕ (q ⊕ t))) ss) failed)) failed))
+      (on Token.Equals zs (λ _ qs. bind (s .rows .expr true 0 qs) (λ t rs. on Token.Semicolon rs (λ _ ss. Chart.ok (branch Node.ConstDecl 0 (named v ⊕ t)) ss) failed)) failed)) failed)
+  unfolding run parseConstDecl _⊕_ isFlagged isName
+  const-rule w start xs f =
+      alloc-rule s w _ start Node.ConstDecl 0 f (λ x u o f₁.
+      expect-ident-rule s a u _ _ f₁ (λ n v i zs d f₂ l.
+      push-rule s w u v _ x n o d f₂ (λ x₁ u₁ o₁ f₃.
+      eat-rule s u₁ _ _ refl f₃
+      (λ j row ws t. update-rule s w (moveTo (suc j) row u₁) _ x₁ Node.ConstDecl Flag.ConstDecl-typed o₁ (t .fit) (λ u₂ o₂ f₄.
+      expr-rule s a u₂ _ _ AllowAll f₄ (λ m v₁ q vs d₁ f₅ l₁.
+      push-rule s w u₂ v₁ _ x₁ m o₂ d₁ f₅ (λ x₂ u₃ o₃ f₆.
+      const-end w u₃ x₂ Flag.ConstDecl-typed _ vs xs refl o₃ f₆ (omega (arith, t .shorter))))))
+      (λ _ i₁. const-end w (moveTo i₁ (u₁ .row) u₁) x₁ 0 _ zs xs refl o₁ f₃ (omega arith)))))
+
+  -- ---- declarations and the file
+
+  -- An import from after `use` on.
+  abbrev pub Imports : Type 0
+  Imports = (w : World) (start : ℕ) (public : Bool) (xs : List RowToken) → Fits s w xs → Sim (Made (Whole s w xs)) (runs s (parseImportDecl start public) w ok) (readImport public xs)
+
+  -- What was read after a token.
+  after : (w : World) (j : ℕ) (row : List Seen) (xs ys : List RowToken) {f : Fate ℕ} {o : Outcome} → length ys < length xs → Sim (Made (Whole s (moveTo j row w) ys)) f o → Sim (Made (Whole s w xs)) f o
+  after w j row xs ys l (gives (made (t, r, d, f, m))) = gives (made (t, r, d, f, omega (arith, l, m)))
+  after w j row xs ys l fails = fails
+  after w j row xs ys l sinks = sinks
+
+  module _ (imports : Imports) where
+    pub decl-rule : (w : World) (xs : List RowToken) → Fits s w xs → Sim (Made (Whole s w xs)) (runs s parseDecl w ok) (readDeclaration (s .rows) xs)
+    unfolding run parseDecl noDecl readDeclaration branch isFlagged isName
+    decl-rule w xs f =
+        eat-rule s w _ _ refl f
+        (λ j row ys t. block-rule s a (moveTo (suc j) row w) ok _ (w .at) Node.InitBlock refl (t .fit) (λ n u ts zs d f₁ l. gives (made (_, refl, d, f₁, omega (arith, t .shorter)))))
+        (λ _ i. eat-rule s (moveTo i (w .row) w) _ _ refl f
+        (λ j row ys t. block-rule s a (moveTo (suc j) row w) ok _ (w .at) Node.RunBlock refl (t .fit) (λ n u ts zs d f₁ l. gives (made (_, refl, d, f₁, omega (arith, t .shorter)))))
+        (λ _ i. eat-rule s (moveTo i (w .row) w) _ _ refl f
+        (λ j row ys t. after w (suc j) row xs ys (t .shorter) (const-rule (moveTo (suc j) row w) (w .at) ys (t .fit)))
+        (λ _ i. eat-rule s (moveTo i (w .row) w) _ _ refl f
+        (λ j row ys t. eat-rule s (moveTo (suc j) row w) _ _ refl (t .fit)
+        (λ j₁ row₁ zs t₁. after w (suc j₁) row₁ xs zs (omega (arith, t .shorter, t₁ .shorter)) (imports (moveTo (suc j₁) row₁ w) (w .at) true zs (t₁ .fit)))
+        (λ _ i. unexpected-rule s (moveTo i row w) _ (t .fit)))
+        (λ _ i. eat-rule s (moveTo i (w .row) w) _ _ refl f
+        (λ j row ys t. after w (suc j) row xs ys (t .shorter) (imports (moveTo (suc j) row w) (w .at) false ys (t .fit)))
+        (λ _ i. unexpected-rule s (moveTo i (w .row) w) _ f)))))
