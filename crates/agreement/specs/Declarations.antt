@@ -7,7 +7,7 @@ use mathlib.Core.List.{List, [], _∷_, _++_}
 use Prim.Native.Nat.{ℕ, zero, suc, _+_, _<_, _≤_, _^_}
 use native.Mathlib.Omega.{arith}
 use lib.Dec.{eqb, ltb}
-use lib.ListN.{length}
+use lib.ListN.{length, length-append}
 use Rattle.words.specs.Token
 use Rattle.words.specs.Node
 use Rattle.words.specs.Flag
@@ -15,21 +15,23 @@ use Rattle.words.specs.Report
 use Rattle.words.specs.Words.{nodeHead}
 use Rattle.definition.specs.declared.Mode.the-variants.{AllowAll}
 use Rattle.definition.specs.declared.Unfinished.{Unfinished}
-use Rattle.definition.specs.Prog.{Turn, again, stop, Prog, Act, Give, Then, Branch, Loop, before, emitAndMark}
+use Rattle.definition.specs.Prog.{Turn, again, stop, Prog, Act, Give, Then, Branch, Loop, endWord}
 use Rattle.definition.specs.Tokens.{constDefExprRecovery, contains, check, eat, eof, emitUnexpected, skipUntilDeclStart, expect, expectCheckRecovery, parseDelimited}
-use Rattle.definition.specs.Nodes.{allocNodeFrom, allocNode, closeNode, updateKind, pushChild, expectIdent}
+use Rattle.definition.specs.Nodes.{allocNodeFrom, allocNode, closeNodeAt, closeNode, updateKind, pushChild, expectIdent}
 use Rattle.definition.specs.Expressions.{parseExpr}
 use Rattle.definition.specs.Declarations.{parseConstDecl, parseImportDecl, noDecl, skipUnlessEof, parseDecl, declTurn, parseFile}
-use Rattle.definition.specs.Abstract.{Seen, World, Fate, ok, fail, moveTo}
+use Rattle.definition.specs.Abstract.{Seen, newNode, written, World, Fate, ok, fail, moveTo, withStore, withLink}
+use Rattle.definition.specs.Encodes.{adopted-length}
 use Rattle.chart.specs.Row.{Lexeme, RowToken, token, begins}
 use Rattle.chart.specs.Tree.{Tree, Trees, flags, node, none, _▸_, _⊕_, branch, named}
 use Rattle.chart.specs.Parser.{Outcome, if, on, bind, failed, readImport, readDeclaration, readDeclarations, readFile}
 use Rattle.chart.specs.Parser as Chart
 use Rattle.agreement.specs.Run.{run, turns}
-use Rattle.agreement.specs.Sim.{Sim, gives, fails, sinks, Made, made, mapped, call, Setting, runs, lexemeOf, Fits, Taken, peek-rule, eat-rule, eof-rule, eof-either, expect-rule, unexpected-rule}
-use Rattle.agreement.specs.Steps.{isFlagged, Open, Done, Agrees, alloc-rule, push-rule, close-branch, update-rule, expr-rule, block-rule}
+use Rattle.agreement.specs.Sim.{Sim, gives, fails, sinks, Made, made, mapped, call, Setting, runs, lexemeOf, cost, Ahead, Fits, Taken, peek-rule, eat-rule, eof-rule, eof-either, expect-rule, unexpected-rule}
+use Rattle.agreement.specs.Steps.{isFlagged, Flagged, flagged, Open, Done, Agrees, alloc-rule, push-rule, close-branch, update-rule, expr-rule, block-rule}
 use Rattle.agreement.specs.Leaves.{expect-ident-rule}
 use Rattle.tree.specs.Stored.{isName}
+use Rattle.tree.specs.Grown.{⊕-assoc, ⊕-none, Built, opened, closed, push, ended}
 
 module _ (s : Setting) where
   -- `expect_check_recovery` beside a token that has to be there.
@@ -46,6 +48,26 @@ module _ (s : Setting) where
       go : (i : ℕ) (b : Bool) → Sim P (elim b [ true ↦ fail | false ↦ runs s emitUnexpected (moveTo i (w .row) w) (λ _ v. k false v) ]) failed
       go i true = fails
       go i false = unexpected-rule s (moveTo i (w .row) w) _ f
+
+  module _ {B : Type 0} {P : B → World → Outcome → Type 0} where
+    -- `push-rule` and `close-branch` of a node whose number is asked for.
+    push-same : (w u v : World) (k : Unfinished → World → Fate B) (x : Unfinished) (c : ℕ) {h : ℕ} {ts : Trees} {t : Tree} {xs : List RowToken} {o : Outcome} → Open s w u x h 0 ts → Done s u v c t → Fits s v xs
+        → ((y : Unfinished) (z : World) → y .node ≡ x .node → Open s w z y h 0 (ts ⊕ (t ▸ none)) → Fits s z xs → Sim P (k y z) o)
+        → Sim P (runs s (pushChild x c) v k) o
+    unfolding run pushChild
+    push-same w u v k x c g b f h =
+        let (p, m) = push (s .text) (s .tokens) g b in
+        h (record { node = x .node; last = c }) (withLink (x .node) (x .last) c v) refl p
+        (record { ahead = f .ahead; room = f .room; few = f .few; born = rw (adopted-length (x .node) c (v .store)) (f .born); sound = rw (f .sound, m) })
+
+    close-same : (w u : World) (k : ℕ → World → Fate B) (x : Unfinished) {kind payload : ℕ} {ts : Trees} {xs : List RowToken} {o : Outcome} → Open s w u x (nodeHead kind payload) 0 ts → isFlagged kind payload ≡ true
+        → Fits s u xs → ((z : World) → Done s w z (x .node) (node kind (flags payload) ts) → z .sane ≡ true → Sim P (k (x .node) z) o)
+        → Sim P (runs s (closeNode x) u k) o
+    unfolding run closeNode closeNodeAt
+    close-same w u k x {kind} {payload} g e f h =
+        let b = flagged (s .text) (s .tokens) (u .values) kind payload e in
+        let d = closed (s .text) (s .tokens) (ended (s .text) (s .tokens) (x .node) (u .at) (g .low) g) (b .says) in
+        h (withStore (written (x .node) endWord (u .at) (u .store)) u) (rw (b .kind-is) at d) (f .sound)
 
   -- A node that stands for what was read.
   abbrev pub Whole : World → List RowToken → ℕ → World → Trees → List RowToken → Type 0
@@ -116,3 +138,33 @@ module _ (s : Setting) (a : Agrees s) where
         (λ _ i. eat-rule s (moveTo i (w .row) w) _ _ refl f
         (λ j row ys t. after w (suc j) row xs ys (t .shorter) (imports (moveTo (suc j) row w) (w .at) false ys (t .fit)))
         (λ _ i. unexpected-rule s (moveTo i (w .row) w) _ f)))))
+
+    -- The declarations of an open file.
+    decl-turns : (n m : ℕ) (w u : World) (x : Unfinished) (h : ℕ) (ts : Trees) (xs : List RowToken) → length xs < n → length xs < m → x .node ≡ 0 → Open s w u x h 0 ts → Fits s u xs
+        → Sim (Made (λ y v us ys. (y .node ≡ 0) × Open s w v y h 0 (ts ⊕ us) × Fits s v ys × (ys ≡ []))) (turns (λ y v j. runs s (declTurn y) v j) n x u ok) (readDeclarations (s .rows) m xs)
+    unfolding run turns declTurn readDeclarations _⊕_
+    decl-turns zero m w u x h ts xs l l₁ e o f = absurd (omega arith)
+    decl-turns (suc n) zero w u x h ts xs l l₁ e o f = absurd (omega arith)
+    decl-turns (suc n) (suc m) w u x h ts [] l l₁ e o f =
+        eof-rule s u _ f (λ q i. gives (made (e, rw (⊕-none ts) o, f, refl))) (λ j kind ys q. absurd (let z : _≡_ {A = ℕ} 0 1 = cc in omega arith))
+    decl-turns (suc n) (suc m) w u x h ts (first ∷ xs) l l₁ e o f =
+        eof-rule s u _ f (λ q i. absurd (let z : _≡_ {A = ℕ} 0 1 = cc in omega arith)) (λ j kind ys q.
+        call s parseDecl (moveTo j (u .row) u) _ _ (decl-rule (moveTo j (u .row) u) (first ∷ xs) f) (λ c v us zs r.
+        rw (r .1) (push-same s w u v _ x c o (r .2) (r .3) (λ y z q₁ o₁ f₁.
+        mapped (λ us. r .0 ▸ us) (decl-turns n m w z y h (ts ⊕ (r .0 ▸ none)) zs (omega (arith, r .4)) (omega (arith, r .4)) (q₁ ∙ e) o₁ f₁)
+        (λ b v us ws p. (p .0, rw (← ⊕-assoc ts (r .0 ▸ none) us) (p .1), p .2, p .3))))))
+
+    -- The file, from an empty store on.
+    pub file-rule : (w : World) (xs : List RowToken) → w .store ≡ [] → w .values ≡ [] → w .sane ≡ true → Ahead s (w .row) xs → cost xs < 2 ^ 26 → length xs < s .bound
+        → Sim (Made (λ n u ts ys. (t : Tree) × (ts ≡ t ▸ none) × (n ≡ 0) × Built (s .text) (s .tokens) [] [] (u .store) (u .values) 0 t × (u .sane ≡ true) × (ys ≡ []))) (runs s parseFile w ok) (readFile (s .rows) xs)
+    unfolding run parseFile allocNode allocNodeFrom readFile branch _⊕_ isFlagged isName
+    file-rule w xs e q sane h room few =
+        let new = newNode (w .at) Node.File 0 in
+        let u : World = withStore (w .store ++ (new ∷ [])) w in
+        let x : Unfinished = record { node = length (w .store); last = 0 } in
+        let blank : World = record { at = 0; row = []; store = []; values = []; sane = true } in
+        let z : length (w .store) ≡ 0 = rw e refl in
+        let g : Open s blank u x (nodeHead Node.File 0) 0 none = opened (s .text) (s .tokens) {st = []} {u = 0} (w .store) (w .values) new (omega (arith, z)) (λ i l. absurd (omega arith)) (λ k p v d. rw q d) refl refl in
+        let f : Fits s u xs = record { ahead = h; room = rw q (omega (arith, room)); few = few; born = omega (arith, length-append (w .store) (new ∷ [])); sound = sane } in
+        call s (Loop x declTurn) u _ _ (decl-turns (s .bound) (suc (length xs)) blank u x (nodeHead Node.File 0) none xs few (omega arith) z g f) (λ y v us ys r.
+        close-same s blank v ok y (r .1) refl (r .2) (λ z d s. gives (made (_, refl, r .0, rw (r .0) at d, s, r .3))))
