@@ -1,11 +1,12 @@
 -- Declarations and the file.
 use mathlib.Core.Path.{_≡_, refl, sym, _∙_, ap}
-use mathlib.Core.Bool.{Bool, true, false, cond, not, _&&_, _||_}
+use mathlib.Core.Bool.{Bool, true, false, cond, not, _&&_, _||_, true≢false}
 use mathlib.Core.Option.{Option}
 use mathlib.Core.Option as Option
 use mathlib.Core.List.{List, [], _∷_, _++_}
 use Prim.Native.Nat.{ℕ, zero, suc, _+_, _<_, _≤_, _^_}
 use native.Mathlib.Omega.{arith}
+use borrow.Author.Tests.{eqb-true, ne-eqb}
 use lib.Dec.{eqb, ltb}
 use lib.ListN.{length, length-append}
 use Rattle.words.specs.Token
@@ -23,8 +24,8 @@ use Rattle.definition.specs.Declarations.{parseConstDecl, parseImportDecl, noDe
 use Rattle.definition.specs.Abstract.{Seen, newNode, written, World, Fate, ok, fail, moveTo, withStore, withLink}
 use Rattle.definition.specs.Encodes.{adopted-length}
 use Rattle.chart.specs.Row.{Lexeme, RowToken, token, begins}
-use Rattle.chart.specs.Tree.{Tree, Trees, flags, node, none, _▸_, _⊕_, branch, named}
-use Rattle.chart.specs.Parser.{Outcome, if, on, bind, failed, readImport, readDeclaration, readDeclarations, readFile}
+use Rattle.chart.specs.Tree.{Tree, Trees, flags, node, none, _▸_, _⊕_, branch, flag, named}
+use Rattle.chart.specs.Parser.{Outcome, if, on, bind, nothing, failed, goesOn, readPath, readItem, readItems, readImport, readDeclaration, readDeclarations, readFile}
 use Rattle.chart.specs.Parser as Chart
 use Rattle.agreement.specs.Run.{run, turns}
 use Rattle.agreement.specs.Sim.{Sim, gives, fails, sinks, Made, made, mapped, call, Setting, runs, lexemeOf, cost, Ahead, Fits, Taken, peek-rule, eat-rule, eof-rule, eof-either, expect-rule, unexpected-rule}
@@ -32,6 +33,155 @@ use Rattle.agreement.specs.Steps.{isFlagged, Flagged, flagged, Open, Don
 use Rattle.agreement.specs.Leaves.{expect-ident-rule}
 use Rattle.tree.specs.Stored.{isName}
 use Rattle.tree.specs.Grown.{⊕-assoc, ⊕-none, Built, opened, closed, push, ended}
+
+-- ---- laws of the chart's steps
+
+-- The same on a token and without it.
+on-same : (K : ℕ) (xs : List RowToken) (o : Outcome) → on K xs (λ _ _. o) o ≡ o
+unfolding on if
+on-same K [] o = refl
+on-same K (token k v ∷ xs) o = go (eqb k K)
+  where
+    go : (b : Bool) → if b o o ≡ o
+    go true = refl
+    go false = refl
+
+-- Another token begins the row.
+on-none : (K : ℕ) (xs : List RowToken) (h : Lexeme → List RowToken → Outcome) (m : Outcome) → begins K xs ≡ false → on K xs h m ≡ m
+unfolding on if begins
+on-none K [] h m e = refl
+on-none K (token k v ∷ xs) h m e = rw e refl
+
+-- What is done with the token, and without it, is exchanged.
+on-alike : (K : ℕ) (xs : List RowToken) (h g : Lexeme → List RowToken → Outcome) (m n : Outcome) → ((v : Lexeme) (ys : List RowToken) → xs ≡ token K v ∷ ys → h v ys ≡ g v ys) → (begins K xs ≡ false → m ≡ n) → on K xs h m ≡ on K xs g n
+unfolding on if begins
+on-alike K [] h g m n a b = b refl
+on-alike K (token k v ∷ xs) h g m n a b = go (eqb k K) refl
+  where
+    go : (t : Bool) → eqb k K ≡ t → if t (h v xs) m ≡ if t (g v xs) n
+    go true e = let q : k ≡ K = eqb-true k K e in a v xs (rw q refl)
+    go false e = b e
+
+-- Two tokens may be asked for in either order.
+on-swap : (K L : ℕ) → eqb K L ≡ false → (xs : List RowToken) (h g : Lexeme → List RowToken → Outcome) (m : Outcome) → on K xs h (on L xs g m) ≡ on L xs g (on K xs h m)
+unfolding on if
+on-swap K L n [] h g m = refl
+on-swap K L n (token k v ∷ xs) h g m = go (eqb k K) (eqb k L) refl refl
+  where
+    go : (a b : Bool) → eqb k K ≡ a → eqb k L ≡ b → if a (h v xs) (if b (g v xs) m) ≡ if b (g v xs) (if a (h v xs) m)
+    go true true e q = let z : k ≡ K = eqb-true k K e in absurd (true≢false (sym q ∙ (ap (λ (i : ℕ). eqb i L) z ∙ n)))
+    go true false e q = refl
+    go false true e q = refl
+    go false false e q = refl
+
+bind-on : (K : ℕ) (xs : List RowToken) (h : Lexeme → List RowToken → Outcome) (m : Outcome) (c : Trees → List RowToken → Outcome) → bind (on K xs h m) c ≡ on K xs (λ v ys. bind (h v ys) c) (bind m c)
+unfolding on if
+bind-on K [] h m c = refl
+bind-on K (token k v ∷ xs) h m c = go (eqb k K)
+  where
+    go : (b : Bool) → bind (if b (h v xs) m) c ≡ if b (bind (h v xs) c) (bind m c)
+    go true = refl
+    go false = refl
+
+bind-alike : (o : Outcome) (c d : Trees → List RowToken → Outcome) → ((t : Trees) (ys : List RowToken) → c t ys ≡ d t ys) → bind o c ≡ bind o d
+unfolding bind
+bind-alike (Chart.ok t ys) c d h = h t ys
+bind-alike nothing c d h = refl
+bind-alike failed c d h = refl
+bind-alike Chart.deep c d h = refl
+
+bind-bind : (o : Outcome) (c d : Trees → List RowToken → Outcome) → bind (bind o c) d ≡ bind o (λ t ys. bind (c t ys) d)
+unfolding bind
+bind-bind (Chart.ok t ys) c d = refl
+bind-bind nothing c d = refl
+bind-bind failed c d = refl
+bind-bind Chart.deep c d = refl
+
+-- An item of a group, and what comes after it.
+item-is : (xs : List RowToken) (c : Trees → List RowToken → Outcome)
+    → bind (readItem xs) c
+    ≡ on Token.Identifier xs (λ u ys. on Token.As ys (λ _ zs. on Token.Identifier zs (λ w ws. c (branch Node.ImportGroupItem 0 (named u ⊕ named w)) ws) failed) (c (branch Node.ImportGroupItem 0 (named u)) ys)) failed
+unfolding readItem bind
+item-is xs c = bind-on Token.Identifier xs _ failed c ∙ on-alike Token.Identifier xs _ _ failed failed (λ u ys _. bind-on Token.As ys _ _ c ∙ on-alike Token.As ys _ _ _ _ (λ _ zs _. bind-on Token.Identifier zs _ failed c) (λ _. refl)) (λ _. refl)
+
+item-none : (xs : List RowToken) (c : Trees → List RowToken → Outcome) → begins Token.Identifier xs ≡ false → bind (readItem xs) c ≡ failed
+item-none xs c e = item-is xs c ∙ on-none Token.Identifier xs _ failed e
+
+-- Items from the second on: what comes after one of them, the comma first.
+abbrev itemsOn : ℕ → (Trees → List RowToken → Outcome) → Trees → List RowToken → Outcome
+itemsOn n c t ys = on Token.Comma ys (λ _ zs. on Token.RightCurly zs (λ _ ws. c t ws) (bind (readItems n zs) (λ us ws. c (t ⊕ us) ws))) (on Token.RightCurly ys (λ _ zs. c t zs) failed)
+
+items-are : (n : ℕ) (xs : List RowToken) (c : Trees → List RowToken → Outcome) → bind (readItems (suc n) xs) c ≡ bind (readItem xs) (itemsOn n c)
+unfolding readItems bind
+items-are n xs c =
+    bind-bind (readItem xs) _ c
+    ∙ bind-alike (readItem xs) _ _ (λ t ys.
+    bind-on Token.RightCurly ys _ _ c
+    ∙ (on-alike Token.RightCurly ys _ _ _ _ (λ _ zs _. refl) (λ _. bind-on Token.Comma ys _ failed c ∙ on-alike Token.Comma ys _ _ failed failed (λ _ zs _. bind-on Token.RightCurly zs _ _ c ∙ on-alike Token.RightCurly zs _ _ _ _ (λ _ ws _. refl) (λ _. bind-bind (readItems n zs) _ c)) (λ _. refl))
+    ∙ on-swap Token.RightCurly Token.Comma refl ys _ _ failed))
+
+-- A path from after a name on.
+pathOn : ℕ → List RowToken → (Trees → List RowToken → Outcome) → Outcome
+pathOn n ys c = if (goesOn ys) (on Token.DoubleColon ys (λ _ zs. bind (readPath n zs) c) failed) (c none ys)
+
+path-is : (n : ℕ) (xs : List RowToken) (c : Trees → List RowToken → Outcome) → bind (readPath (suc n) xs) c ≡ on Token.Identifier xs (λ v ys. pathOn n ys (λ t ws. c (named v ⊕ t) ws)) failed
+unfolding readPath bind if pathOn _⊕_
+path-is n xs c = bind-on Token.Identifier xs _ failed c ∙ on-alike Token.Identifier xs _ _ failed failed (λ v ys _. go v ys (goesOn ys)) (λ _. refl)
+  where
+    go : (v : Lexeme) (ys : List RowToken) (b : Bool) → bind (if b (on Token.DoubleColon ys (λ _ zs. bind (readPath n zs) (λ t ws. Chart.ok (named v ⊕ t) ws)) failed) (Chart.ok (named v) ys)) c
+        ≡ if b (on Token.DoubleColon ys (λ _ zs. bind (readPath n zs) (λ t ws. c (named v ⊕ t) ws)) failed) (c (named v) ys)
+    go v ys true = bind-on Token.DoubleColon ys _ failed c ∙ on-alike Token.DoubleColon ys _ _ failed failed (λ _ zs _. bind-bind (readPath n zs) _ c) (λ _. refl)
+    go v ys false = refl
+
+-- What an import comes to after its path.
+abbrev globbed : Bool → Trees → List RowToken → Outcome
+globbed p t ws = on Token.Semicolon ws (λ _ vs. Chart.ok (branch Node.ImportDecl (flag p Flag.ImportDecl-public + Flag.ImportDecl-glob) t) vs) failed
+
+abbrev firstItem : List RowToken → (Trees → List RowToken → Outcome) → Outcome
+firstItem ws c = bind (readItem ws) (λ i vs. on Token.Comma vs (λ _ qs. bind (readItems (suc (length qs)) qs) (λ us rs. c (i ⊕ us) rs)) failed)
+
+abbrev grouped : Bool → Trees → List RowToken → Outcome
+grouped p t ws = firstItem ws (λ us rs. on Token.Semicolon rs (λ _ ss. Chart.ok (branch Node.ImportGroupDecl (flag p Flag.ImportGroupDecl-public) (t ⊕ us)) ss) failed)
+
+abbrev renamed : Bool → Trees → List RowToken → Outcome
+renamed p t zs = on Token.Identifier zs (λ v ws. on Token.Semicolon ws (λ _ vs. Chart.ok (branch Node.ImportAsDecl (flag p Flag.ImportAsDecl-public) (branch Node.ImportPath 0 t ⊕ named v)) vs) failed) failed
+
+abbrev importOn : Bool → Trees → List RowToken → Outcome
+importOn p t ys =
+    on Token.Semicolon ys (λ _ zs. Chart.ok (branch Node.ImportDecl (flag p Flag.ImportDecl-public) t) zs)
+    (on Token.As ys (λ _ zs. renamed p t zs)
+    (on Token.DoubleColon ys (λ _ zs. on Token.Star zs (λ _ ws. globbed p t ws) (on Token.LeftCurly zs (λ _ ws. grouped p t ws) failed))
+    failed))
+
+import-is : (p : Bool) (xs : List RowToken) → readImport p xs ≡ on Token.Identifier xs (λ v ys. pathOn (length xs) ys (λ t ws. importOn p (named v ⊕ t) ws)) failed
+unfolding readImport
+import-is p xs = path-is (length xs) xs (λ t ys. importOn p t ys)
+
+-- The same in the order in which tokens are asked for.
+path-on : (p : Bool) (n : ℕ) (ts : Trees) (ys : List RowToken) (c : Trees → List RowToken → Outcome) → ((t : Trees) (ws : List RowToken) → c t ws ≡ importOn p (ts ⊕ t) ws)
+    → pathOn (suc n) ys c
+    ≡ on Token.DoubleColon ys (λ _ zs. on Token.Star zs (λ _ ws. globbed p ts ws) (on Token.LeftCurly zs (λ _ ws. grouped p ts ws) (on Token.Identifier zs (λ v ws. pathOn n ws (λ t vs. c (named v ⊕ t) vs)) failed)))
+    (on Token.Semicolon ys (λ _ zs. Chart.ok (branch Node.ImportDecl (flag p Flag.ImportDecl-public) ts) zs) (on Token.As ys (λ _ zs. renamed p ts zs) failed))
+unfolding pathOn goesOn begins on if
+path-on p n ts [] c h = h none []
+path-on p n ts (token k v ∷ zs) c h = go (eqb k Token.DoubleColon) refl
+  where
+    past : (zs : List RowToken)
+        → pathOn (suc n) (token Token.DoubleColon v ∷ zs) c
+        ≡ on Token.Star zs (λ _ ws. globbed p ts ws) (on Token.LeftCurly zs (λ _ ws. grouped p ts ws) (on Token.Identifier zs (λ v ws. pathOn n ws (λ t vs. c (named v ⊕ t) vs)) failed))
+    past [] = h none _
+    past (token j w ∷ ws) = split (eqb j Token.Identifier) refl
+      where
+        split : (b : Bool) → eqb j Token.Identifier ≡ b → pathOn (suc n) (token Token.DoubleColon v ∷ token j w ∷ ws) c
+            ≡ on Token.Star (token j w ∷ ws) (λ _ ws. globbed p ts ws) (on Token.LeftCurly (token j w ∷ ws) (λ _ ws. grouped p ts ws) (on Token.Identifier (token j w ∷ ws) (λ v ws. pathOn n ws (λ t vs. c (named v ⊕ t) vs)) failed))
+        split true e = let q : j ≡ Token.Identifier = eqb-true j Token.Identifier e in rw q (path-is n (token Token.Identifier w ∷ ws) c)
+        split false e = let q : c none (token Token.DoubleColon v ∷ token j w ∷ ws) ≡ importOn p ts (token Token.DoubleColon v ∷ token j w ∷ ws) = rw (⊕-none ts) at (h none (token Token.DoubleColon v ∷ token j w ∷ ws)) in rw e q
+
+    go : (b : Bool) → eqb k Token.DoubleColon ≡ b → pathOn (suc n) (token k v ∷ zs) c
+        ≡ on Token.DoubleColon (token k v ∷ zs) (λ _ zs. on Token.Star zs (λ _ ws. globbed p ts ws) (on Token.LeftCurly zs (λ _ ws. grouped p ts ws) (on Token.Identifier zs (λ v ws. pathOn n ws (λ t vs. c (named v ⊕ t) vs)) failed)))
+        (on Token.Semicolon (token k v ∷ zs) (λ _ zs. Chart.ok (branch Node.ImportDecl (flag p Flag.ImportDecl-public) ts) zs) (on Token.As (token k v ∷ zs) (λ _ zs. renamed p ts zs) failed))
+    go true e = let q : k ≡ Token.DoubleColon = eqb-true k Token.DoubleColon e in rw q (past zs)
+    go false e = let q : c none (token k v ∷ zs) ≡ importOn p ts (token k v ∷ zs) = rw (⊕-none ts) at (h none (token k v ∷ zs)) in rw e (rw e at q)
 
 module _ (s : Setting) where
   -- `expect_check_recovery` beside a token that has to be there.
