@@ -1,5 +1,5 @@
 -- Declarations and the file.
-use mathlib.Core.Path.{_≡_, refl, sym, _∙_, ap}
+use mathlib.Core.Path.{_≡_, refl, sym, _∙_, ap, subst}
 use mathlib.Core.Bool.{Bool, true, false, cond, not, _&&_, _||_, true≢false}
 use mathlib.Core.Option.{Option}
 use mathlib.Core.Option as Option
@@ -20,7 +20,7 @@ use Rattle.definition.specs.Prog.{Turn, again, stop, Prog, Act, Give, Then, Bra
 use Rattle.definition.specs.Tokens.{constDefExprRecovery, contains, check, eat, eof, emitUnexpected, skipUntilDeclStart, expect, expectCheckRecovery, parseDelimited}
 use Rattle.definition.specs.Nodes.{allocNodeFrom, allocNode, closeNodeAt, closeNode, updateKind, pushChild, expectIdent}
 use Rattle.definition.specs.Expressions.{parseExpr}
-use Rattle.definition.specs.Declarations.{parseConstDecl, parseImportDecl, noDecl, skipUnlessEof, parseDecl, declTurn, parseFile}
+use Rattle.definition.specs.Declarations.{pathTurn, parseImportGroupItem, Group, groupItem, parseImportGroup, ImportSoFar, globImport, groupImport, importTurn, importAs, parseConstDecl, parseImportDecl, noDecl, skipUnlessEof, parseDecl, declTurn, parseFile}
 use Rattle.definition.specs.Abstract.{Seen, newNode, written, World, Fate, ok, fail, moveTo, withStore, withLink}
 use Rattle.definition.specs.Encodes.{adopted-length}
 use Rattle.chart.specs.Row.{Lexeme, RowToken, token, begins}
@@ -28,8 +28,8 @@ use Rattle.chart.specs.Tree.{Tree, Trees, flags, node, none, _▸_, _⊕_, bran
 use Rattle.chart.specs.Parser.{Outcome, if, on, bind, nothing, failed, goesOn, readPath, readItem, readItems, readImport, readDeclaration, readDeclarations, readFile}
 use Rattle.chart.specs.Parser as Chart
 use Rattle.agreement.specs.Run.{run, turns}
-use Rattle.agreement.specs.Sim.{Sim, gives, fails, sinks, Made, made, mapped, call, Setting, runs, lexemeOf, cost, Ahead, Fits, Taken, peek-rule, eat-rule, eof-rule, eof-either, expect-rule, unexpected-rule}
-use Rattle.agreement.specs.Steps.{isFlagged, Flagged, flagged, Open, Done, Agrees, alloc-rule, push-rule, close-branch, update-rule, expr-rule, block-rule}
+use Rattle.agreement.specs.Sim.{Sim, gives, fails, sinks, Made, made, mapped, call, Setting, runs, lexemeOf, cost, Ahead, Fits, Taken, peek-rule, pass-rule, eat-rule, check-rule, eof-rule, eof-either, expect-rule, unexpected-rule}
+use Rattle.agreement.specs.Steps.{isFlagged, Flagged, flagged, Open, Done, Agrees, alloc-rule, alloc-here, push-rule, close-branch, update-rule, expr-rule, block-rule}
 use Rattle.agreement.specs.Leaves.{expect-ident-rule}
 use Rattle.tree.specs.Stored.{isName}
 use Rattle.tree.specs.Grown.{⊕-assoc, ⊕-none, Built, opened, closed, push, ended}
@@ -200,6 +200,24 @@ module _ (s : Setting) where
       go i false = unexpected-rule s (moveTo i (w .row) w) _ f
 
   module _ {B : Type 0} {P : B → World → Outcome → Type 0} where
+    -- `eat`, `check` and `expect` beside one outcome for both cases.
+    eat-cases : (w : World) (k : Bool → World → Fate B) (K : ℕ) (xs : List RowToken) (o : Outcome) → eqb Token.Eof K ≡ false → Fits s w xs
+        → ((j : ℕ) (row : List Seen) (ys : List RowToken) → Taken s K w xs j row ys → Sim P (k true (moveTo (suc j) row w)) o)
+        → (begins K xs ≡ false → (i : ℕ) → Sim P (k false (moveTo i (w .row) w)) o)
+        → Sim P (runs s (eat K) w k) o
+    eat-cases w k K xs o n f hit miss = subst (λ r. Sim P (runs s (eat K) w k) r) (on-same K xs o) (eat-rule s w k (λ _ _. o) n f hit miss)
+
+    check-cases : (w : World) (k : Bool → World → Fate B) (K : ℕ) (xs : List RowToken) (o : Outcome) → eqb Token.Eof K ≡ false → Fits s w xs
+        → ((j : ℕ) (ys : List RowToken) → xs ≡ token K (lexemeOf s j) ∷ ys → Sim P (k true (moveTo j (w .row) w)) o)
+        → (begins K xs ≡ false → (i : ℕ) → Sim P (k false (moveTo i (w .row) w)) o)
+        → Sim P (runs s (check K) w k) o
+    check-cases w k K xs o n f hit miss = subst (λ r. Sim P (runs s (check K) w k) r) (on-same K xs o) (check-rule s w k (λ _ _. o) n f hit miss)
+
+    expect-fails : (w : World) (k : Bool → World → Fate B) (K : ℕ) (xs : List RowToken) → eqb Token.Eof K ≡ false → Fits s w xs
+        → ((j : ℕ) (row : List Seen) (ys : List RowToken) → Taken s K w xs j row ys → Sim P (k true (moveTo (suc j) row w)) failed)
+        → Sim P (runs s (expect K) w k) failed
+    expect-fails w k K xs n f hit = subst (λ r. Sim P (runs s (expect K) w k) r) (on-same K xs failed) (expect-rule s w k (λ _ _. failed) n f hit)
+
     -- `push-rule` and `close-branch` of a node whose number is asked for.
     push-same : (w u v : World) (k : Unfinished → World → Fate B) (x : Unfinished) (c : ℕ) {h : ℕ} {ts : Trees} {t : Tree} {xs : List RowToken} {o : Outcome} → Open s w u x h 0 ts → Done s u v c t → Fits s v xs
         → ((y : Unfinished) (z : World) → y .node ≡ x .node → Open s w z y h 0 (ts ⊕ (t ▸ none)) → Fits s z xs → Sim P (k y z) o)
@@ -258,6 +276,38 @@ module _ (s : Setting) (a : Agrees s) where
       push-rule s w u₂ v₁ _ x₁ m o₂ d₁ f₅ (λ x₂ u₃ o₃ f₆.
       const-end w u₃ x₂ Flag.ConstDecl-typed _ vs xs refl o₃ f₆ (omega (arith, t .shorter))))))
       (λ _ i₁. const-end w (moveTo i₁ (u₁ .row) u₁) x₁ 0 _ zs xs refl o₁ f₃ (omega arith)))))
+
+  -- ---- imports
+
+  module _ {B : Type 0} {P : B → World → Outcome → Type 0} where
+    -- A path in a group is read to its end, then reported.
+    path-turns : (n : ℕ) (u : World) (xs : List RowToken) → Fits s u xs → Sim P (turns (λ x v j. runs s (pathTurn x) v j) n tt u (λ _ _. fail)) failed
+    unfolding run turns pathTurn
+    path-turns zero u xs f = fails
+    path-turns (suc n) u xs f =
+        eat-cases s u _ Token.DoubleColon xs failed refl f
+        (λ j row ys t. check-cases s (moveTo (suc j) row u) _ Token.Identifier ys failed refl (t .fit)
+        (λ i zs e. pass-rule s (moveTo i row u) (λ _ v. turns (λ x v j. runs s (pathTurn x) v j) n tt v (λ _ _. fail)) (t .fit) e (λ i₁ row₁ v t₁. path-turns n (moveTo (suc i₁) row₁ u) zs (t₁ .fit)))
+        (λ _ i. fails))
+        (λ _ i. fails)
+
+    -- An item of a group, where no path may come after it.
+    item-rule : (w : World) (k : ℕ → World → Fate B) (c : Trees → List RowToken → Outcome) (xs : List RowToken) → Fits s w xs
+        → ((t : Trees) (ys : List RowToken) → begins Token.DoubleColon ys ≡ true → c t ys ≡ failed)
+        → ((n : ℕ) (u : World) (t : Tree) (ys : List RowToken) → Done s w u n t → Fits s u ys → length ys < length xs → Sim P (k n u) (c (t ▸ none) ys))
+        → Sim P (runs s parseImportGroupItem w k) (bind (readItem xs) c)
+    unfolding run parseImportGroupItem branch _⊕_ isFlagged isName begins
+    item-rule w k c xs f bars h =
+        rw (item-is xs c) (alloc-here s w _ Node.ImportGroupItem 0 f (λ x u o f₁.
+        expect-ident-rule s a u _ _ f₁ (λ n v i ys d f₂ l.
+        push-rule s w u v _ x n o d f₂ (λ x₁ u₁ o₁ f₃.
+        check-cases s u₁ _ Token.DoubleColon ys _ refl f₃
+        (λ j zs e. let q : begins Token.As ys ≡ false = rw e refl in rw (on-none Token.As ys _ _ q, bars _ ys (rw e refl)) (path-turns (s .bound) (moveTo j (u₁ .row) u₁) ys f₃))
+        (λ _ i₁. eat-rule s (moveTo i₁ (u₁ .row) u₁) _ _ refl f₃
+        (λ j row zs t. expect-ident-rule s a (moveTo (suc j) row u₁) _ _ (t .fit) (λ m v₁ i₂ ws d₁ f₄ l₁.
+        push-rule s w (moveTo (suc j) row u₁) v₁ _ x₁ m o₁ d₁ f₄ (λ x₂ u₂ o₂ f₅.
+        close-branch s w u₂ k x₂ o₂ refl f₅ (λ b z d₂ f₆. h b z _ ws d₂ f₆ (omega (arith, t .shorter))))))
+        (λ _ i₂. close-branch s w (moveTo i₂ (u₁ .row) u₁) k x₁ o₁ refl f₃ (λ b z d₂ f₆. h b z _ ys d₂ f₆ l)))))))
 
   -- ---- declarations and the file
 
