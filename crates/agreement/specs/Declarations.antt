@@ -6,7 +6,7 @@ use mathlib.Core.Option as Option
 use mathlib.Core.List.{List, [], _∷_, _++_}
 use Prim.Native.Nat.{ℕ, zero, suc, _+_, _<_, _≤_, _^_}
 use native.Mathlib.Omega.{arith}
-use borrow.Author.Tests.{eqb-true, ne-eqb}
+use borrow.Author.Tests.{eqb-true, eq-eqb, ne-eqb}
 use lib.Dec.{eqb, ltb}
 use lib.ListN.{length, length-append}
 use Rattle.words.specs.Token
@@ -17,7 +17,7 @@ use Rattle.words.specs.Words.{nodeHead}
 use Rattle.definition.specs.declared.Mode.the-variants.{AllowAll}
 use Rattle.definition.specs.declared.Unfinished.{Unfinished}
 use Rattle.definition.specs.Prog.{Turn, again, stop, Prog, Act, Give, Then, Branch, Loop, endWord}
-use Rattle.definition.specs.Tokens.{constDefExprRecovery, contains, check, eat, eof, emitUnexpected, skipUntilDeclStart, expect, expectCheckRecovery, parseDelimited}
+use Rattle.definition.specs.Tokens.{Delimited, delimited, delimitedTurn, constDefExprRecovery, contains, check, eat, eof, emitUnexpected, skipUntilDeclStart, expect, expectCheckRecovery, parseDelimited}
 use Rattle.definition.specs.Nodes.{allocNodeFrom, allocNode, closeNodeAt, closeNode, updateKind, pushChild, expectIdent}
 use Rattle.definition.specs.Expressions.{parseExpr}
 use Rattle.definition.specs.Declarations.{pathTurn, parseImportGroupItem, Group, groupItem, parseImportGroup, ImportSoFar, globImport, groupImport, importTurn, importAs, parseConstDecl, parseImportDecl, noDecl, skipUnlessEof, parseDecl, declTurn, parseFile}
@@ -28,7 +28,7 @@ use Rattle.chart.specs.Tree.{Tree, Trees, flags, node, none, _▸_, _⊕_, bran
 use Rattle.chart.specs.Parser.{Outcome, if, on, bind, nothing, failed, goesOn, readPath, readItem, readItems, readImport, readDeclaration, readDeclarations, readFile}
 use Rattle.chart.specs.Parser as Chart
 use Rattle.agreement.specs.Run.{run, turns}
-use Rattle.agreement.specs.Sim.{Sim, gives, fails, sinks, Made, made, mapped, call, Setting, runs, lexemeOf, cost, Ahead, Fits, Taken, peek-rule, pass-rule, eat-rule, check-rule, eof-rule, eof-either, expect-rule, unexpected-rule}
+use Rattle.agreement.specs.Sim.{Sim, gives, fails, sinks, Made, made, mapped, call, Setting, runs, lexemeOf, cost, Ahead, Fits, Taken, peek-rule, pass-rule, eat-rule, check-rule, eof-rule, eof-either, expect-rule, expect-hit, expect-miss, unexpected-rule}
 use Rattle.agreement.specs.Steps.{isFlagged, Flagged, flagged, Open, Done, Agrees, alloc-rule, alloc-here, push-rule, close-branch, update-rule, expr-rule, block-rule}
 use Rattle.agreement.specs.Leaves.{expect-ident-rule}
 use Rattle.tree.specs.Stored.{isName}
@@ -51,6 +51,15 @@ on-none : (K : ℕ) (xs : List RowToken) (h : Lexeme → List RowToken → Outco
 unfolding on if begins
 on-none K [] h m e = refl
 on-none K (token k v ∷ xs) h m e = rw e refl
+
+on-first : (K : ℕ) (xs : List RowToken) (h : Lexeme → List RowToken → Outcome) (m : Outcome) {v : Lexeme} {ys : List RowToken} → xs ≡ token K v ∷ ys → on K xs h m ≡ h v ys
+unfolding on if
+on-first K xs h m e = rw (e, eq-eqb K K refl) refl
+
+begins-other : (K L : ℕ) → eqb K L ≡ false → (xs : List RowToken) → begins K xs ≡ true → begins L xs ≡ false
+unfolding begins
+begins-other K L n [] e = absurd (true≢false (sym e))
+begins-other K L n (token k v ∷ xs) e = let z : k ≡ K = eqb-true k K e in ap (λ (i : ℕ). eqb i L) z ∙ n
 
 -- What is done with the token, and without it, is exchanged.
 on-alike : (K : ℕ) (xs : List RowToken) (h g : Lexeme → List RowToken → Outcome) (m n : Outcome) → ((v : Lexeme) (ys : List RowToken) → xs ≡ token K v ∷ ys → h v ys ≡ g v ys) → (begins K xs ≡ false → m ≡ n) → on K xs h m ≡ on K xs g n
@@ -107,6 +116,11 @@ item-is xs c = bind-on Token.Identifier xs _ failed c ∙ on-alike Token.Identif
 item-none : (xs : List RowToken) (c : Trees → List RowToken → Outcome) → begins Token.Identifier xs ≡ false → bind (readItem xs) c ≡ failed
 item-none xs c e = item-is xs c ∙ on-none Token.Identifier xs _ failed e
 
+-- No item begins with `}`.
+item-end : (xs : List RowToken) (c : Trees → List RowToken → Outcome) → on Token.RightCurly xs (λ _ _. failed) (bind (readItem xs) c) ≡ bind (readItem xs) c
+unfolding begins
+item-end xs c = on-alike Token.RightCurly xs _ _ _ _ (λ v ys e. sym (item-none xs c (rw e refl))) (λ _. refl) ∙ on-same Token.RightCurly xs (bind (readItem xs) c)
+
 -- Items from the second on: what comes after one of them, the comma first.
 abbrev itemsOn : ℕ → (Trees → List RowToken → Outcome) → Trees → List RowToken → Outcome
 itemsOn n c t ys = on Token.Comma ys (λ _ zs. on Token.RightCurly zs (λ _ ws. c t ws) (bind (readItems n zs) (λ us ws. c (t ⊕ us) ws))) (on Token.RightCurly ys (λ _ zs. c t zs) failed)
@@ -119,6 +133,9 @@ items-are n xs c =
     bind-on Token.RightCurly ys _ _ c
     ∙ (on-alike Token.RightCurly ys _ _ _ _ (λ _ zs _. refl) (λ _. bind-on Token.Comma ys _ failed c ∙ on-alike Token.Comma ys _ _ failed failed (λ _ zs _. bind-on Token.RightCurly zs _ _ c ∙ on-alike Token.RightCurly zs _ _ _ _ (λ _ ws _. refl) (λ _. bind-bind (readItems n zs) _ c)) (λ _. refl))
     ∙ on-swap Token.RightCurly Token.Comma refl ys _ _ failed))
+
+items-end : (n : ℕ) (xs : List RowToken) (c : Trees → List RowToken → Outcome) → on Token.RightCurly xs (λ _ _. failed) (bind (readItems (suc n) xs) c) ≡ bind (readItems (suc n) xs) c
+items-end n xs c = rw (items-are n xs c) (item-end xs (itemsOn n c))
 
 -- A path from after a name on.
 pathOn : ℕ → List RowToken → (Trees → List RowToken → Outcome) → Outcome
@@ -279,6 +296,12 @@ module _ (s : Setting) (a : Agrees s) where
 
   -- ---- imports
 
+  abbrev groupTurn : {B : Type 0} → Delimited Group → World → (Turn (Delimited Group) → World → Fate B) → Fate B
+  groupTurn d v j = runs s (delimitedTurn Token.RightCurly Token.Comma groupItem d) v j
+
+  abbrev counted : Unfinished → ℕ → Delimited Group
+  counted x n = delimited (record { node = x; count = n }) false
+
   module _ {B : Type 0} {P : B → World → Outcome → Type 0} where
     -- A path in a group is read to its end, then reported.
     path-turns : (n : ℕ) (u : World) (xs : List RowToken) → Fits s u xs → Sim P (turns (λ x v j. runs s (pathTurn x) v j) n tt u (λ _ _. fail)) failed
@@ -308,6 +331,69 @@ module _ (s : Setting) (a : Agrees s) where
         push-rule s w (moveTo (suc j) row u₁) v₁ _ x₁ m o₁ d₁ f₄ (λ x₂ u₂ o₂ f₅.
         close-branch s w u₂ k x₂ o₂ refl f₅ (λ b z d₂ f₆. h b z _ ws d₂ f₆ (omega (arith, t .shorter))))))
         (λ _ i₂. close-branch s w (moveTo i₂ (u₁ .row) u₁) k x₁ o₁ refl f₃ (λ b z d₂ f₆. h b z _ ys d₂ f₆ l)))))))
+
+    -- One turn of a group's loop: at `}`, at what is no item, and after an item.
+    group-turn : (w u : World) (j : Turn (Delimited Group) → World → Fate B) (x : Unfinished) (n h : ℕ) (ts : Trees) (xs : List RowToken) (e : List RowToken → Outcome) (c : Trees → List RowToken → Outcome) → Open s w u x h 0 ts → Fits s u xs
+        → ((t : Trees) (ys : List RowToken) → begins Token.DoubleColon ys ≡ true → c t ys ≡ failed)
+        → ((i l : ℕ) (ys : List RowToken) → xs ≡ token Token.RightCurly (lexemeOf s l) ∷ ys → Sim P (j (stop (counted x n)) (moveTo i (u .row) u)) (e ys))
+        → ((i : ℕ) → begins Token.RightCurly xs ≡ false → Sim P (j (stop (counted x n)) (moveTo i (u .row) u)) failed)
+        → ((y : Unfinished) (z : World) (t : Tree) (ys : List RowToken) → Open s w z y h 0 (ts ⊕ (t ▸ none)) → Fits s z ys → length ys < length xs
+        → Sim P (runs s (eat Token.Comma) z (λ b v. elim b [ true ↦ j (again (counted y (n + 1))) v | false ↦ j (stop (counted y (n + 1))) v ])) (c (t ▸ none) ys))
+        → Sim P (groupTurn (counted x n) u j) (on Token.RightCurly xs (λ _ ys. e ys) (bind (readItem xs) c))
+    unfolding run delimitedTurn groupItem begins
+    group-turn w u j x n h ts xs e c o f bars ends stays goes =
+        eat-cases s u _ Token.Star xs _ refl f
+        (λ i row ys t. let q : begins Token.RightCurly xs ≡ false = rw (t .first) refl in rw (on-none Token.RightCurly xs _ _ q, item-none xs c (rw (t .first) refl)) fails)
+        (λ _ i. check-cases s (moveTo i (u .row) u) _ Token.Identifier xs _ refl f
+        (λ l ys t. let q : begins Token.RightCurly xs ≡ false = rw t refl in rw (on-none Token.RightCurly xs _ _ q) (item-rule (moveTo l (u .row) u) _ c xs f bars (λ m v t₁ zs d f₁ l₁.
+        push-rule s w (moveTo l (u .row) u) v _ x m o d f₁ (λ y z o₁ f₂. goes y z t₁ zs o₁ f₂ l₁))))
+        (λ q i. check-cases s (moveTo i (u .row) u) _ Token.RightCurly xs _ refl f
+        (λ l ys t. rw (on-first Token.RightCurly xs _ _ t) (eof-either s (moveTo l (u .row) u) _ f (λ b i₁. ends i₁ l ys t)))
+        (λ r i. rw (on-none Token.RightCurly xs _ _ r, item-none xs c q) (eof-either s (moveTo i (u .row) u) _ f (elim [
+          | true ↦ λ i₁. stays i₁ r
+          | false ↦ λ i₁. unexpected-rule s (moveTo i₁ (u .row) u) _ f
+        ])))))
+
+    -- The loop of a group with an item or more before it. A group of one item is ended by what comes after it.
+    group-turns : (k : Group → World → Fate B) (n m : ℕ) (w u : World) (x : Unfinished) (i h : ℕ) (ts : Trees) (xs : List RowToken) (e : List RowToken → Outcome) (c : Trees → List RowToken → Outcome) → length xs < n → length xs < m → 1 ≤ i
+        → Open s w u x h 0 ts → Fits s u xs
+        → ((z : World) (ys : List RowToken) → Open s w z x h 0 ts → Fits s z ys → length ys < length xs → Sim P (k (counted x i .list) z) (e ys))
+        → ((y : Unfinished) (j : ℕ) (z : World) (us : Trees) (ys : List RowToken) → 2 ≤ j → Open s w z y h 0 (ts ⊕ us) → Fits s z ys → length ys < length xs → Sim P (k (counted y j .list) z) (c us ys))
+        → Sim P (turns groupTurn n (counted x i) u (λ d v. runs s (expect Token.RightCurly) v (λ _ z. k (d .list) z))) (on Token.RightCurly xs (λ _ ys. e ys) (bind (readItems m xs) c))
+    unfolding turns _⊕_
+    group-turns k zero m w u x i h ts xs e c l l₁ p o f ends goes = absurd (omega arith)
+    group-turns k (suc n) zero w u x i h ts xs e c l l₁ p o f ends goes = absurd (omega arith)
+    group-turns k (suc n) (suc m) w u x i h ts xs e c l l₁ p o f ends goes =
+        rw (items-are m xs c) (group-turn w u _ x i h ts xs e (itemsOn m c) o f
+        (λ t ys q. on-none Token.Comma ys _ _ (begins-other Token.DoubleColon Token.Comma refl ys q) ∙ on-none Token.RightCurly ys _ failed (begins-other Token.DoubleColon Token.RightCurly refl ys q))
+        (λ j b ys q. expect-hit s (moveTo j (u .row) u) _ f q (λ j₁ row t. ends (moveTo (suc j₁) row u) ys o (t .fit) (t .shorter)))
+        (λ j q. expect-miss s (moveTo j (u .row) u) _ Token.RightCurly refl f q)
+        (λ y z t ys o₁ f₁ l₂. eat-rule s z _ _ refl f₁
+        (λ j row zs q. group-turns k n m w (moveTo (suc j) row z) y (i + 1) h (ts ⊕ (t ▸ none)) zs _ _ (omega (arith, q .shorter)) (omega (arith, q .shorter)) (omega arith) o₁ (q .fit)
+        (λ v ws o₂ f₂ l₃. goes y (i + 1) v (t ▸ none) ws (omega arith) o₂ f₂ (omega (arith, q .shorter)))
+        (λ y₁ b v us ws p₁ o₂ f₂ l₃. goes y₁ b v (t ▸ us) ws p₁ (rw (← ⊕-assoc ts (t ▸ none) us) o₂) f₂ (omega (arith, q .shorter))))
+        (λ _ j. expect-rule s (moveTo j (z .row) z) _ _ refl f₁ (λ j₁ row zs q. goes y (i + 1) (moveTo (suc j₁) row z) (t ▸ none) zs (omega arith) o₁ (q .fit) (omega (arith, q .shorter))))))
+
+    -- The loop of a group from its start on.
+    group-first : (k : Group → World → Fate B) (n : ℕ) (w u : World) (x : Unfinished) (h : ℕ) (ts : Trees) (xs : List RowToken) (c : Trees → List RowToken → Outcome) → length xs < n → Open s w u x h 0 ts → Fits s u xs
+        → ((z : World) → Sim P (k (counted x 0 .list) z) failed)
+        → ((y : Unfinished) (z : World) → Sim P (k (counted y 1 .list) z) failed)
+        → ((y : Unfinished) (j : ℕ) (z : World) (us : Trees) (ys : List RowToken) → 2 ≤ j → Open s w z y h 0 (ts ⊕ us) → Fits s z ys → length ys < length xs → Sim P (k (counted y j .list) z) (c us ys))
+        → Sim P (turns groupTurn n (counted x 0) u (λ d v. runs s (expect Token.RightCurly) v (λ _ z. k (d .list) z))) (firstItem xs c)
+    unfolding turns _⊕_
+    group-first k zero w u x h ts xs c l o f nil one goes = absurd (omega arith)
+    group-first k (suc n) w u x h ts xs c l o f nil one goes =
+        subst (λ r. Sim P (turns groupTurn (suc n) (counted x 0) u (λ d v. runs s (expect Token.RightCurly) v (λ _ z. k (d .list) z))) r) (item-end xs _)
+        (group-turn w u _ x 0 h ts xs (λ _. failed) _ o f
+        (λ t ys q. on-none Token.Comma ys _ failed (begins-other Token.DoubleColon Token.Comma refl ys q))
+        (λ j b ys q. expect-hit s (moveTo j (u .row) u) _ f q (λ j₁ row t. nil (moveTo (suc j₁) row u)))
+        (λ j q. expect-miss s (moveTo j (u .row) u) _ Token.RightCurly refl f q)
+        (λ y z t ys o₁ f₁ l₁. eat-rule s z _ _ refl f₁
+        (λ j row qs q. subst (λ r. Sim P (turns groupTurn n (counted y 1) (moveTo (suc j) row z) (λ d v. runs s (expect Token.RightCurly) v (λ _ z. k (d .list) z))) r) (items-end (length qs) qs _)
+        (group-turns k n (suc (length qs)) w (moveTo (suc j) row z) y 1 h (ts ⊕ (t ▸ none)) qs (λ _. failed) (λ us rs. c (t ▸ us) rs) (omega (arith, q .shorter)) (omega arith) (omega arith) o₁ (q .fit)
+        (λ v ws o₂ f₂ l₃. one y v)
+        (λ y₁ b v us ws p₁ o₂ f₂ l₃. goes y₁ b v (t ▸ us) ws p₁ (rw (← ⊕-assoc ts (t ▸ none) us) o₂) f₂ (omega (arith, q .shorter)))))
+        (λ _ j. expect-fails s (moveTo j (z .row) z) _ Token.RightCurly ys refl f₁ (λ j₁ row zs q. one y (moveTo (suc j₁) row z)))))
 
   -- ---- declarations and the file
 
