@@ -8,7 +8,7 @@ use Prim.Native.Nat.{ℕ, zero, suc, _+_, _<_, _≤_, _^_}
 use native.Mathlib.Omega.{arith}
 use borrow.Author.Tests.{eqb-true, eq-eqb, ne-eqb}
 use lib.Dec.{eqb, ltb}
-use lib.ListN.{length, length-append}
+use lib.ListN.{length, length-append, List·getD-append}
 use Rattle.words.specs.Token
 use Rattle.words.specs.Node
 use Rattle.words.specs.Flag
@@ -16,12 +16,12 @@ use Rattle.words.specs.Report
 use Rattle.words.specs.Words.{nodeHead}
 use Rattle.definition.specs.declared.Mode.the-variants.{AllowAll}
 use Rattle.definition.specs.declared.Unfinished.{Unfinished}
-use Rattle.definition.specs.Prog.{Turn, again, stop, Prog, Act, Give, Then, Branch, Loop, endWord}
+use Rattle.definition.specs.Prog.{Turn, again, stop, Prog, Act, Give, Then, Branch, Loop, peek, endWord}
 use Rattle.definition.specs.Tokens.{Delimited, delimited, delimitedTurn, constDefExprRecovery, contains, check, eat, eof, emitUnexpected, skipUntilDeclStart, expect, expectCheckRecovery, parseDelimited}
 use Rattle.definition.specs.Nodes.{allocNodeFrom, allocNode, closeNodeAt, closeNode, updateKind, pushChild, expectIdent}
 use Rattle.definition.specs.Expressions.{parseExpr}
 use Rattle.definition.specs.Declarations.{pathTurn, parseImportGroupItem, Group, groupItem, parseImportGroup, ImportSoFar, globImport, groupImport, importTurn, importAs, parseConstDecl, parseImportDecl, noDecl, skipUnlessEof, parseDecl, declTurn, parseFile}
-use Rattle.definition.specs.Abstract.{Seen, newNode, written, World, Fate, ok, fail, moveTo, withStore, withLink}
+use Rattle.definition.specs.Abstract.{Seen, noNode, newNode, written, World, Fate, ok, fail, moveTo, withStore, withLink}
 use Rattle.definition.specs.Encodes.{adopted-length}
 use Rattle.chart.specs.Row.{Lexeme, RowToken, token, begins}
 use Rattle.chart.specs.Tree.{Tree, Trees, flags, node, none, _▸_, _⊕_, branch, flag, named}
@@ -32,7 +32,7 @@ use Rattle.agreement.specs.Sim.{Sim, gives, fails, sinks, Made, made, ma
 use Rattle.agreement.specs.Steps.{isFlagged, Flagged, flagged, Open, Done, Agrees, alloc-rule, alloc-here, push-rule, close-branch, update-rule, expr-rule, block-rule}
 use Rattle.agreement.specs.Leaves.{expect-ident-rule}
 use Rattle.tree.specs.Stored.{isName}
-use Rattle.tree.specs.Grown.{⊕-assoc, ⊕-none, Built, opened, closed, push, ended}
+use Rattle.tree.specs.Grown.{size, ⊕-assoc, ⊕-none, Built, opened, closed, waits, adopt, push, ended}
 
 -- ---- laws of the chart's steps
 
@@ -253,6 +253,26 @@ module _ (s : Setting) where
         let b = flagged (s .text) (s .tokens) (u .values) kind payload e in
         let d = closed (s .text) (s .tokens) (ended (s .text) (s .tokens) (x .node) (u .at) (g .low) g) (b .says) in
         h (withStore (written (x .node) endWord (u .at) (u .store)) u) (rw (b .kind-is) at d) (f .sound)
+
+    -- A token is looked at for trivia's sake alone.
+    peek-over : (w : World) (k : World → Fate B) {xs : List RowToken} {o : Outcome} → Fits s w xs → ((i : ℕ) → Sim P (k (moveTo i (w .row) w)) o) → Sim P (runs s peek w (λ _ u. k u)) o
+    peek-over w k f h = peek-rule s w (λ _ u. k u) f (λ i e. h i) (λ j kind ys e n. h j)
+
+    -- A node is opened around one that was read before.
+    around-rule : (w u : World) (k : Unfinished → World → Fate B) (start kind payload c : ℕ) {t : Tree} {xs : List RowToken} {o : Outcome} → 0 < length (w .store) → Done s w u c t → Fits s u xs
+        → ((y : Unfinished) (z : World) → Open s w z y (nodeHead kind payload) 0 (t ▸ none) → Fits s z xs → Sim P (k y z) o)
+        → Sim P (runs s (Then (allocNodeFrom start kind payload) (λ x. pushChild x c)) u k) o
+    unfolding run allocNodeFrom pushChild _⊕_
+    around-rule w u k start kind payload c {t} {xs} born b f h =
+        let new = newNode start kind payload in
+        let now = u .store ++ (new ∷ []) in
+        let n = length (u .store) in
+        let l : length now ≡ n + 1 = length-append (u .store) (new ∷ []) in
+        let g = opened (s .text) (s .tokens) {st = w .store} {u = size t + 0} (u .store) (u .values) new (omega (arith, b .size-is)) (b .old) (b .says) refl refl in
+        let x = waits (s .text) (s .tokens) {base = w .store} {now = now} {most = u .values} {p = n} (omega arith) b (omega (arith, l)) (λ i q. List·getD-append (u .store) (new ∷ []) noNode i q) (λ k p v d. d) (omega arith) in
+        let (p, m) = adopt (s .text) (s .tokens) {u = 0} g x (omega (arith, born, b .low)) in
+        h (record { node = n; last = c }) (withLink n 0 c (withStore now u)) p
+        (record { ahead = f .ahead; room = f .room; few = f .few; born = rw (adopted-length n c now) (omega (arith, l)); sound = rw (f .sound, m) })
 
   -- A node that stands for what was read.
   abbrev pub Whole : World → List RowToken → ℕ → World → Trees → List RowToken → Type 0
