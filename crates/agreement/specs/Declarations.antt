@@ -200,6 +200,27 @@ path-on p n ts (token k v ∷ zs) c h = go (eqb k Token.DoubleColon) refl
     go true e = let q : k ≡ Token.DoubleColon = eqb-true k Token.DoubleColon e in rw q (past zs)
     go false e = let q : c none (token k v ∷ zs) ≡ importOn p ts (token k v ∷ zs) = rw (⊕-none ts) at (h none (token k v ∷ zs)) in rw e (rw e at q)
 
+-- Whether an import is public is a flag.
+plain-flagged : (p : Bool) → isFlagged Node.ImportDecl (flag p Flag.ImportDecl-public) ≡ true
+unfolding isFlagged isName flag
+plain-flagged true = refl
+plain-flagged false = refl
+
+glob-flagged : (p : Bool) → isFlagged Node.ImportDecl (flag p Flag.ImportDecl-public + Flag.ImportDecl-glob) ≡ true
+unfolding isFlagged isName flag
+glob-flagged true = refl
+glob-flagged false = refl
+
+group-flagged : (p : Bool) → isFlagged Node.ImportGroupDecl (flag p Flag.ImportGroupDecl-public) ≡ true
+unfolding isFlagged isName flag
+group-flagged true = refl
+group-flagged false = refl
+
+as-flagged : (p : Bool) → isFlagged Node.ImportAsDecl (flag p Flag.ImportAsDecl-public) ≡ true
+unfolding isFlagged isName flag
+as-flagged true = refl
+as-flagged false = refl
+
 module _ (s : Setting) where
   -- `expect_check_recovery` beside a token that has to be there.
   recovery-rule : {B : Type 0} {P : B → World → Outcome → Type 0} (w : World) (k : Bool → World → Fate B) (recovery : List ℕ) {K : ℕ} {xs : List RowToken} (h : Lexeme → List RowToken → Outcome) → eqb Token.Eof K ≡ false → Fits s w xs
@@ -414,6 +435,27 @@ module _ (s : Setting) (a : Agrees s) where
         (λ v ws o₂ f₂ l₃. one y v)
         (λ y₁ b v us ws p₁ o₂ f₂ l₃. goes y₁ b v (t ▸ us) ws p₁ (rw (← ⊕-assoc ts (t ▸ none) us) o₂) f₂ (omega (arith, q .shorter)))))
         (λ _ j. expect-fails s (moveTo j (z .row) z) _ Token.RightCurly ys refl f₁ (λ j₁ row zs q. one y (moveTo (suc j₁) row z)))))
+
+  -- What comes after a path that no glob or group ended.
+  abbrev pathEnd : ℕ → Bool → Unfinished → Prog ℕ
+  pathEnd start public x = Then (eat Token.Semicolon) (λ b. Branch b (closeNode x) (importAs start public x))
+
+  path-end : (w u : World) (start : ℕ) (p : Bool) (x : Unfinished) (ts : Trees) (xs ys : List RowToken) → 0 < length (w .store) → length ys < length xs → Open s w u x (nodeHead Node.ImportDecl (flag p Flag.ImportDecl-public)) 0 ts → Fits s u ys
+      → Sim (Made (Whole s w xs)) (runs s (pathEnd start p x) u ok)
+      (on Token.Semicolon ys (λ _ zs. Chart.ok (branch Node.ImportDecl (flag p Flag.ImportDecl-public) ts) zs) (on Token.As ys (λ _ zs. renamed p ts zs) failed))
+  unfolding run importAs branch flag _⊕_ isFlagged isName
+  path-end w u start p x ts xs ys born l o f =
+      eat-rule s u _ _ refl f
+      (λ j row zs t. close-branch s w (moveTo (suc j) row u) ok x o (plain-flagged p) (t .fit) (λ n z d f₁. gives (made (_, refl, d, f₁, omega (arith, t .shorter)))))
+      (λ _ i. update-rule s w (moveTo i (u .row) u) _ x Node.ImportPath 0 o f (λ u₁ o₁ f₁.
+      close-branch s w u₁ _ x o₁ refl f₁ (λ n u₂ d f₂.
+      around-rule s w u₂ _ start Node.ImportAsDecl (flag p Flag.ImportAsDecl-public) n born d f₂ (λ y u₃ o₃ f₃.
+      expect-rule s u₃ _ _ refl f₃ (λ j row zs t.
+      expect-ident-rule s a (moveTo (suc j) row u₃) _ _ (t .fit) (λ m v i₁ ws d₁ f₄ l₁.
+      push-rule s w (moveTo (suc j) row u₃) v _ y m o₃ d₁ f₄ (λ y₁ u₄ o₄ f₅.
+      expect-rule s u₄ _ _ refl f₅ (λ j₁ row₁ vs t₁.
+      close-branch s w (moveTo (suc j₁) row₁ u₄) ok y₁ o₄ (as-flagged p) (t₁ .fit) (λ n₁ z d₂ f₆.
+      gives (made (_, refl, d₂, f₆, omega (arith, t .shorter, t₁ .shorter))))))))))))
 
   -- ---- declarations and the file
 
