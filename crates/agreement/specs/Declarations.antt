@@ -157,8 +157,11 @@ globbed p t ws = on Token.Semicolon ws (λ _ vs. Chart.ok (branch Node.ImportDec
 abbrev firstItem : List RowToken → (Trees → List RowToken → Outcome) → Outcome
 firstItem ws c = bind (readItem ws) (λ i vs. on Token.Comma vs (λ _ qs. bind (readItems (suc (length qs)) qs) (λ us rs. c (i ⊕ us) rs)) failed)
 
+abbrev groupedOn : Bool → Trees → Trees → List RowToken → Outcome
+groupedOn p t us rs = on Token.Semicolon rs (λ _ ss. Chart.ok (branch Node.ImportGroupDecl (flag p Flag.ImportGroupDecl-public) (t ⊕ us)) ss) failed
+
 abbrev grouped : Bool → Trees → List RowToken → Outcome
-grouped p t ws = firstItem ws (λ us rs. on Token.Semicolon rs (λ _ ss. Chart.ok (branch Node.ImportGroupDecl (flag p Flag.ImportGroupDecl-public) (t ⊕ us)) ss) failed)
+grouped p t ws = firstItem ws (groupedOn p t)
 
 abbrev renamed : Bool → Trees → List RowToken → Outcome
 renamed p t zs = on Token.Identifier zs (λ v ws. on Token.Semicolon ws (λ _ vs. Chart.ok (branch Node.ImportAsDecl (flag p Flag.ImportAsDecl-public) (branch Node.ImportPath 0 t ⊕ named v)) vs) failed) failed
@@ -456,6 +459,61 @@ module _ (s : Setting) (a : Agrees s) where
       expect-rule s u₄ _ _ refl f₅ (λ j₁ row₁ vs t₁.
       close-branch s w (moveTo (suc j₁) row₁ u₄) ok y₁ o₄ (as-flagged p) (t₁ .fit) (λ n₁ z d₂ f₆.
       gives (made (_, refl, d₂, f₆, omega (arith, t .shorter, t₁ .shorter))))))))))))
+
+  -- A group, its `{` ahead.
+  group-rule : (w u : World) (p : Bool) (x : Unfinished) (ts : Trees) (xs ys ws : List RowToken) {v : Lexeme} → length ys < length xs → Open s w u x (nodeHead Node.ImportGroupDecl (flag p Flag.ImportGroupDecl-public)) 0 ts → Fits s u ys → ys ≡ token Token.LeftCurly v ∷ ws
+      → Sim (Made (Whole s w xs)) (runs s (parseImportGroup x) u ok) (grouped p ts ws)
+  unfolding run parseImportGroup parseDelimited branch
+  group-rule w u p x ts xs ys ws l o f e =
+      peek-over s u _ f (λ i. expect-hit s (moveTo i (u .row) u) _ f e (λ j row t.
+      group-first closes (s .bound) w (moveTo (suc j) row u) x _ ts ws (groupedOn p ts) (t .fit .few) o (t .fit) (λ z. fails) (λ y z. fails) (λ y b z us vs b₁ o₁ f₁ l₁.
+      clear (eqb b 0) (eqb b 1) (ne-eqb b 0 (omega arith)) (ne-eqb b 1 (omega arith)) (expect-rule s z _ _ refl f₁ (λ j₁ row₁ qs t₁.
+      close-branch s w (moveTo (suc j₁) row₁ z) ok y o₁ (group-flagged p) (t₁ .fit) (λ n z₁ d f₂. gives (made (_, refl, d, f₂, omega (arith, t .shorter, t₁ .shorter)))))))))
+    where
+      clear : {v : Fate ℕ} {r : Outcome} (b d : Bool) → b ≡ false → d ≡ false → Sim (Made (Whole s w xs)) v r → Sim (Made (Whole s w xs)) (elim b [ true ↦ fail | false ↦ elim d [ true ↦ fail | false ↦ v ] ]) r
+      clear true d q r h = absurd (true≢false q)
+      clear false true q r h = absurd (true≢false r)
+      clear false false q r h = h
+
+      closes : Group → World → Fate ℕ
+      closes g z = elim (eqb (g .count) 0) [
+        | true ↦ fail
+        | false ↦ elim (eqb (g .count) 1) [ true ↦ fail | false ↦ runs s (expect Token.Semicolon) z (λ _ v. runs s (closeNode (g .node)) v ok) ]
+      ]
+
+  -- The end of an import: a glob or a group is whole already.
+  abbrev importEnd : ℕ → Bool → ImportSoFar → Prog ℕ
+  importEnd start public p = elim (p .whole) [ Option.some n ↦ Give n | Option.none ↦ pathEnd start public (p .path) ]
+
+  -- The loop of an import, after a name.
+  import-turns : (start : ℕ) (p : Bool) (n m : ℕ) (w u : World) (x : Unfinished) (ts : Trees) (xs ys : List RowToken) (c : Trees → List RowToken → Outcome) → length ys < n → length ys < m → length ys < length xs → 0 < length (w .store)
+      → Open s w u x (nodeHead Node.ImportDecl (flag p Flag.ImportDecl-public)) 0 ts → Fits s u ys → ((t : Trees) (ws : List RowToken) → c t ws ≡ importOn p (ts ⊕ t) ws)
+      → Sim (Made (Whole s w xs)) (turns (λ q v j. runs s (importTurn p q) v j) n (record { path = x; whole = Option.none }) u (λ q v. runs s (importEnd start p q) v ok)) (pathOn m ys c)
+  unfolding run turns importTurn globImport groupImport flag branch
+  import-turns start p zero m w u x ts xs ys c l l₁ l₂ born o f h = absurd (omega arith)
+  import-turns start p (suc n) zero w u x ts xs ys c l l₁ l₂ born o f h = absurd (omega arith)
+  import-turns start p (suc n) (suc m) w u x ts xs ys c l l₁ l₂ born o f h =
+      rw (path-on p m ts ys c h) (eat-rule s u _ _ refl f
+      (λ j row zs t. eat-rule s (moveTo (suc j) row u) _ _ refl (t .fit)
+      (λ j₁ row₁ ws t₁. update-rule s w (moveTo (suc j₁) row₁ u) _ x Node.ImportDecl (flag p Flag.ImportDecl-public + Flag.ImportDecl-glob) o (t₁ .fit) (λ u₁ o₁ f₁.
+      expect-rule s u₁ _ _ refl f₁ (λ j₂ row₂ vs t₂.
+      close-branch s w (moveTo (suc j₂) row₂ u₁) ok x o₁ (glob-flagged p) (t₂ .fit) (λ b z d f₂. gives (made (_, refl, d, f₂, omega (arith, t .shorter, t₁ .shorter, t₂ .shorter)))))))
+      (λ _ i. check-rule s (moveTo i row u) _ _ refl (t .fit)
+      (λ j₁ ws e. update-rule s w (moveTo j₁ row u) _ x Node.ImportGroupDecl (flag p Flag.ImportGroupDecl-public) o (t .fit) (λ u₁ o₁ f₁.
+      group-rule w u₁ p x ts xs zs ws (omega (arith, t .shorter)) o₁ f₁ e))
+      (λ _ i₁. expect-ident-rule s a (moveTo i₁ row u) _ _ (t .fit) (λ b v i₂ ws d f₁ l₃.
+      push-rule s w (moveTo i₁ row u) v _ x b o d f₁ (λ y z o₁ f₂.
+      import-turns start p n m w z y (ts ⊕ named (lexemeOf s i₂)) xs ws (λ t vs. c (named (lexemeOf s i₂) ⊕ t) vs) (omega (arith, t .shorter)) (omega (arith, t .shorter)) (omega (arith, t .shorter)) born o₁ f₂ (λ t₁ vs. rw (⊕-assoc ts (named (lexemeOf s i₂)) t₁) (h (named (lexemeOf s i₂) ⊕ t₁) vs)))))))
+      (λ _ i. path-end w (moveTo i (u .row) u) start p x ts xs ys born l₂ o f))
+
+  -- An import from after `use` on.
+  pub import-rule : (w : World) (start : ℕ) (p : Bool) (xs : List RowToken) → Fits s w xs → Sim (Made (Whole s w xs)) (runs s (parseImportDecl start p) w ok) (readImport p xs)
+  unfolding run parseImportDecl flag _⊕_
+  import-rule w start p xs f =
+      rw (import-is p xs) (alloc-rule s w _ start Node.ImportDecl (flag p Flag.ImportDecl-public) f (λ x u o f₁.
+      expect-ident-rule s a u _ _ f₁ (λ n v i ys d f₂ l.
+      push-rule s w u v _ x n o d f₂ (λ y z o₁ f₃.
+      import-turns start p (s .bound) (length xs) w z y _ xs ys _ (f₃ .few) l l (f .born) o₁ f₃ (λ t ws. refl)))))
 
   -- ---- declarations and the file
 
