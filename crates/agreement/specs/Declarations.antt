@@ -1,6 +1,6 @@
 -- Declarations and the file.
 use mathlib.Core.Path.{_≡_, refl, sym, _∙_, ap, subst}
-use mathlib.Core.Bool.{Bool, true, false, cond, not, _&&_, _||_, true≢false}
+use mathlib.Core.Bool.{Bool, true, false, _&&_, true≢false}
 use mathlib.Core.Option.{Option}
 use mathlib.Core.Option as Option
 use mathlib.Core.List.{List, [], _∷_, _++_}
@@ -12,15 +12,14 @@ use lib.ListN.{length, length-append, List·getD-append}
 use Rattle.words.specs.Token
 use Rattle.words.specs.Node
 use Rattle.words.specs.Flag
-use Rattle.words.specs.Report
 use Rattle.words.specs.Words.{nodeHead}
 use Rattle.definition.specs.declared.Mode.the-variants.{AllowAll}
 use Rattle.definition.specs.declared.Unfinished.{Unfinished}
-use Rattle.definition.specs.Prog.{Turn, again, stop, Prog, Act, Give, Then, Branch, Loop, peek, endWord}
-use Rattle.definition.specs.Tokens.{Delimited, delimited, delimitedTurn, constDefExprRecovery, contains, check, eat, eof, emitUnexpected, skipUntilDeclStart, expect, expectCheckRecovery, parseDelimited}
-use Rattle.definition.specs.Nodes.{allocNodeFrom, allocNode, closeNodeAt, closeNode, updateKind, pushChild, expectIdent}
+use Rattle.definition.specs.Prog.{Turn, again, stop, Prog, Give, Then, Branch, Loop, peek, endWord}
+use Rattle.definition.specs.Tokens.{Delimited, delimited, delimitedTurn, constDefExprRecovery, contains, check, eat, emitUnexpected, expect, expectCheckRecovery, parseDelimited}
+use Rattle.definition.specs.Nodes.{allocNodeFrom, allocNode, closeNodeAt, closeNode, pushChild}
 use Rattle.definition.specs.Expressions.{parseExpr}
-use Rattle.definition.specs.Declarations.{pathTurn, parseImportGroupItem, Group, groupItem, parseImportGroup, ImportSoFar, globImport, groupImport, importTurn, importAs, parseConstDecl, parseImportDecl, noDecl, skipUnlessEof, parseDecl, declTurn, parseFile}
+use Rattle.definition.specs.Declarations.{pathTurn, parseImportGroupItem, Group, groupItem, parseImportGroup, ImportSoFar, globImport, groupImport, importTurn, importAs, parseConstDecl, parseImportDecl, noDecl, parseDecl, declTurn, parseFile}
 use Rattle.definition.specs.Abstract.{Seen, noNode, newNode, written, World, Fate, ok, fail, moveTo, withStore, withLink}
 use Rattle.definition.specs.Encodes.{adopted-length}
 use Rattle.chart.specs.Row.{Lexeme, RowToken, token, begins}
@@ -29,7 +28,7 @@ use Rattle.chart.specs.Parser.{Outcome, if, on, bind, nothing, failed, goesOn, 
 use Rattle.chart.specs.Parser as Chart
 use Rattle.agreement.specs.Run.{run, turns}
 use Rattle.agreement.specs.Sim.{Sim, gives, fails, sinks, Made, made, mapped, call, Setting, runs, lexemeOf, cost, Ahead, Fits, Taken, peek-rule, pass-rule, eat-rule, check-rule, eof-rule, eof-either, expect-rule, expect-hit, expect-miss, unexpected-rule}
-use Rattle.agreement.specs.Steps.{isFlagged, Flagged, flagged, Open, Done, Agrees, alloc-rule, alloc-here, push-rule, close-branch, update-rule, expr-rule, block-rule}
+use Rattle.agreement.specs.Steps.{isFlagged, flagged, Open, Done, Agrees, alloc-rule, alloc-here, push-rule, close-branch, update-rule, expr-rule, block-rule}
 use Rattle.agreement.specs.Leaves.{expect-ident-rule}
 use Rattle.tree.specs.Stored.{isName}
 use Rattle.tree.specs.Grown.{size, ⊕-assoc, ⊕-none, Built, opened, closed, waits, adopt, push, ended}
@@ -52,10 +51,12 @@ unfolding on if begins
 on-none K [] h m e = refl
 on-none K (token k v ∷ xs) h m e = rw e refl
 
+-- That token begins it.
 on-first : (K : ℕ) (xs : List RowToken) (h : Lexeme → List RowToken → Outcome) (m : Outcome) {v : Lexeme} {ys : List RowToken} → xs ≡ token K v ∷ ys → on K xs h m ≡ h v ys
 unfolding on if
 on-first K xs h m e = rw (e, eq-eqb K K refl) refl
 
+-- A row begins with one kind.
 begins-other : (K L : ℕ) → eqb K L ≡ false → (xs : List RowToken) → begins K xs ≡ true → begins L xs ≡ false
 unfolding begins
 begins-other K L n [] e = absurd (true≢false (sym e))
@@ -83,6 +84,7 @@ on-swap K L n (token k v ∷ xs) h g m = go (eqb k K) (eqb k L) refl refl
     go false true e q = refl
     go false false e q = refl
 
+-- What comes after is done on the token and without it.
 bind-on : (K : ℕ) (xs : List RowToken) (h : Lexeme → List RowToken → Outcome) (m : Outcome) (c : Trees → List RowToken → Outcome) → bind (on K xs h m) c ≡ on K xs (λ v ys. bind (h v ys) c) (bind m c)
 unfolding on if
 bind-on K [] h m c = refl
@@ -92,6 +94,7 @@ bind-on K (token k v ∷ xs) h m c = go (eqb k K)
     go true = refl
     go false = refl
 
+-- What comes after is exchanged.
 bind-alike : (o : Outcome) (c d : Trees → List RowToken → Outcome) → ((t : Trees) (ys : List RowToken) → c t ys ≡ d t ys) → bind o c ≡ bind o d
 unfolding bind
 bind-alike (Chart.ok t ys) c d h = h t ys
@@ -99,6 +102,7 @@ bind-alike nothing c d h = refl
 bind-alike failed c d h = refl
 bind-alike Chart.deep c d h = refl
 
+-- What comes after is grouped anew.
 bind-bind : (o : Outcome) (c d : Trees → List RowToken → Outcome) → bind (bind o c) d ≡ bind o (λ t ys. bind (c t ys) d)
 unfolding bind
 bind-bind (Chart.ok t ys) c d = refl
@@ -113,6 +117,7 @@ item-is : (xs : List RowToken) (c : Trees → List RowToken → Outcome)
 unfolding readItem bind
 item-is xs c = bind-on Token.Identifier xs _ failed c ∙ on-alike Token.Identifier xs _ _ failed failed (λ u ys _. bind-on Token.As ys _ _ c ∙ on-alike Token.As ys _ _ _ _ (λ _ zs _. bind-on Token.Identifier zs _ failed c) (λ _. refl)) (λ _. refl)
 
+-- No item is there.
 item-none : (xs : List RowToken) (c : Trees → List RowToken → Outcome) → begins Token.Identifier xs ≡ false → bind (readItem xs) c ≡ failed
 item-none xs c e = item-is xs c ∙ on-none Token.Identifier xs _ failed e
 
@@ -125,6 +130,7 @@ item-end xs c = on-alike Token.RightCurly xs _ _ _ _ (λ v ys e. sym (item-none 
 abbrev itemsOn : ℕ → (Trees → List RowToken → Outcome) → Trees → List RowToken → Outcome
 itemsOn n c t ys = on Token.Comma ys (λ _ zs. on Token.RightCurly zs (λ _ ws. c t ws) (bind (readItems n zs) (λ us ws. c (t ⊕ us) ws))) (on Token.RightCurly ys (λ _ zs. c t zs) failed)
 
+-- Items one by one.
 items-are : (n : ℕ) (xs : List RowToken) (c : Trees → List RowToken → Outcome) → bind (readItems (suc n) xs) c ≡ bind (readItem xs) (itemsOn n c)
 unfolding readItems bind
 items-are n xs c =
@@ -134,6 +140,7 @@ items-are n xs c =
     ∙ (on-alike Token.RightCurly ys _ _ _ _ (λ _ zs _. refl) (λ _. bind-on Token.Comma ys _ failed c ∙ on-alike Token.Comma ys _ _ failed failed (λ _ zs _. bind-on Token.RightCurly zs _ _ c ∙ on-alike Token.RightCurly zs _ _ _ _ (λ _ ws _. refl) (λ _. bind-bind (readItems n zs) _ c)) (λ _. refl))
     ∙ on-swap Token.RightCurly Token.Comma refl ys _ _ failed))
 
+-- Nor do items begin with it.
 items-end : (n : ℕ) (xs : List RowToken) (c : Trees → List RowToken → Outcome) → on Token.RightCurly xs (λ _ _. failed) (bind (readItems (suc n) xs) c) ≡ bind (readItems (suc n) xs) c
 items-end n xs c = rw (items-are n xs c) (item-end xs (itemsOn n c))
 
@@ -141,6 +148,7 @@ items-end n xs c = rw (items-are n xs c) (item-end xs (itemsOn n c))
 pathOn : ℕ → List RowToken → (Trees → List RowToken → Outcome) → Outcome
 pathOn n ys c = if (goesOn ys) (on Token.DoubleColon ys (λ _ zs. bind (readPath n zs) c) failed) (c none ys)
 
+-- A path from its first name on.
 path-is : (n : ℕ) (xs : List RowToken) (c : Trees → List RowToken → Outcome) → bind (readPath (suc n) xs) c ≡ on Token.Identifier xs (λ v ys. pathOn n ys (λ t ws. c (named v ⊕ t) ws)) failed
 unfolding readPath bind if pathOn _⊕_
 path-is n xs c = bind-on Token.Identifier xs _ failed c ∙ on-alike Token.Identifier xs _ _ failed failed (λ v ys _. go v ys (goesOn ys)) (λ _. refl)
@@ -173,6 +181,7 @@ importOn p t ys =
     (on Token.DoubleColon ys (λ _ zs. on Token.Star zs (λ _ ws. globbed p t ws) (on Token.LeftCurly zs (λ _ ws. grouped p t ws) failed))
     failed))
 
+-- An import from its first name on.
 import-is : (p : Bool) (xs : List RowToken) → readImport p xs ≡ on Token.Identifier xs (λ v ys. pathOn (length xs) ys (λ t ws. importOn p (named v ⊕ t) ws)) failed
 unfolding readImport
 import-is p xs = path-is (length xs) xs (λ t ys. importOn p t ys)
@@ -321,6 +330,7 @@ module _ (s : Setting) (a : Agrees s) where
       close-branch s w (moveTo (suc j₁) row₁ z) ok y o₁ e (t₂ .fit) (λ m q d₁ f₃.
       gives (made (_, refl, d₁, f₃, omega (arith, t .shorter, t₂ .shorter))))))))
 
+  -- A constant from after `const` on.
   pub const-rule : (w : World) (start : ℕ) (xs : List RowToken) → Fits s w xs
       → Sim (Made (Whole s w xs)) (runs s (parseConstDecl start) w ok)
       (on Token.Identifier xs (λ v zs.
@@ -517,60 +527,56 @@ module _ (s : Setting) (a : Agrees s) where
 
   -- ---- declarations and the file
 
-  -- An import from after `use` on.
-  abbrev pub Imports : Type 0
-  Imports = (w : World) (start : ℕ) (public : Bool) (xs : List RowToken) → Fits s w xs → Sim (Made (Whole s w xs)) (runs s (parseImportDecl start public) w ok) (readImport public xs)
-
   -- What was read after a token.
   after : (w : World) (j : ℕ) (row : List Seen) (xs ys : List RowToken) {f : Fate ℕ} {o : Outcome} → length ys < length xs → Sim (Made (Whole s (moveTo j row w) ys)) f o → Sim (Made (Whole s w xs)) f o
   after w j row xs ys l (gives (made (t, r, d, f, m))) = gives (made (t, r, d, f, omega (arith, l, m)))
   after w j row xs ys l fails = fails
   after w j row xs ys l sinks = sinks
 
-  module _ (imports : Imports) where
-    pub decl-rule : (w : World) (xs : List RowToken) → Fits s w xs → Sim (Made (Whole s w xs)) (runs s parseDecl w ok) (readDeclaration (s .rows) xs)
-    unfolding run parseDecl noDecl readDeclaration branch isFlagged isName
-    decl-rule w xs f =
-        eat-rule s w _ _ refl f
-        (λ j row ys t. block-rule s a (moveTo (suc j) row w) ok _ (w .at) Node.InitBlock refl (t .fit) (λ n u ts zs d f₁ l. gives (made (_, refl, d, f₁, omega (arith, t .shorter)))))
-        (λ _ i. eat-rule s (moveTo i (w .row) w) _ _ refl f
-        (λ j row ys t. block-rule s a (moveTo (suc j) row w) ok _ (w .at) Node.RunBlock refl (t .fit) (λ n u ts zs d f₁ l. gives (made (_, refl, d, f₁, omega (arith, t .shorter)))))
-        (λ _ i. eat-rule s (moveTo i (w .row) w) _ _ refl f
-        (λ j row ys t. after w (suc j) row xs ys (t .shorter) (const-rule (moveTo (suc j) row w) (w .at) ys (t .fit)))
-        (λ _ i. eat-rule s (moveTo i (w .row) w) _ _ refl f
-        (λ j row ys t. eat-rule s (moveTo (suc j) row w) _ _ refl (t .fit)
-        (λ j₁ row₁ zs t₁. after w (suc j₁) row₁ xs zs (omega (arith, t .shorter, t₁ .shorter)) (imports (moveTo (suc j₁) row₁ w) (w .at) true zs (t₁ .fit)))
-        (λ _ i. unexpected-rule s (moveTo i row w) _ (t .fit)))
-        (λ _ i. eat-rule s (moveTo i (w .row) w) _ _ refl f
-        (λ j row ys t. after w (suc j) row xs ys (t .shorter) (imports (moveTo (suc j) row w) (w .at) false ys (t .fit)))
-        (λ _ i. unexpected-rule s (moveTo i (w .row) w) _ f)))))
+  -- A declaration.
+  pub decl-rule : (w : World) (xs : List RowToken) → Fits s w xs → Sim (Made (Whole s w xs)) (runs s parseDecl w ok) (readDeclaration (s .rows) xs)
+  unfolding run parseDecl noDecl readDeclaration branch isFlagged isName
+  decl-rule w xs f =
+      eat-rule s w _ _ refl f
+      (λ j row ys t. block-rule s a (moveTo (suc j) row w) ok _ (w .at) Node.InitBlock refl (t .fit) (λ n u ts zs d f₁ l. gives (made (_, refl, d, f₁, omega (arith, t .shorter)))))
+      (λ _ i. eat-rule s (moveTo i (w .row) w) _ _ refl f
+      (λ j row ys t. block-rule s a (moveTo (suc j) row w) ok _ (w .at) Node.RunBlock refl (t .fit) (λ n u ts zs d f₁ l. gives (made (_, refl, d, f₁, omega (arith, t .shorter)))))
+      (λ _ i. eat-rule s (moveTo i (w .row) w) _ _ refl f
+      (λ j row ys t. after w (suc j) row xs ys (t .shorter) (const-rule (moveTo (suc j) row w) (w .at) ys (t .fit)))
+      (λ _ i. eat-rule s (moveTo i (w .row) w) _ _ refl f
+      (λ j row ys t. eat-rule s (moveTo (suc j) row w) _ _ refl (t .fit)
+      (λ j₁ row₁ zs t₁. after w (suc j₁) row₁ xs zs (omega (arith, t .shorter, t₁ .shorter)) (import-rule (moveTo (suc j₁) row₁ w) (w .at) true zs (t₁ .fit)))
+      (λ _ i. unexpected-rule s (moveTo i row w) _ (t .fit)))
+      (λ _ i. eat-rule s (moveTo i (w .row) w) _ _ refl f
+      (λ j row ys t. after w (suc j) row xs ys (t .shorter) (import-rule (moveTo (suc j) row w) (w .at) false ys (t .fit)))
+      (λ _ i. unexpected-rule s (moveTo i (w .row) w) _ f)))))
 
-    -- The declarations of an open file.
-    decl-turns : (n m : ℕ) (w u : World) (x : Unfinished) (h : ℕ) (ts : Trees) (xs : List RowToken) → length xs < n → length xs < m → x .node ≡ 0 → Open s w u x h 0 ts → Fits s u xs
-        → Sim (Made (λ y v us ys. (y .node ≡ 0) × Open s w v y h 0 (ts ⊕ us) × Fits s v ys × (ys ≡ []))) (turns (λ y v j. runs s (declTurn y) v j) n x u ok) (readDeclarations (s .rows) m xs)
-    unfolding run turns declTurn readDeclarations _⊕_
-    decl-turns zero m w u x h ts xs l l₁ e o f = absurd (omega arith)
-    decl-turns (suc n) zero w u x h ts xs l l₁ e o f = absurd (omega arith)
-    decl-turns (suc n) (suc m) w u x h ts [] l l₁ e o f =
-        eof-rule s u _ f (λ q i. gives (made (e, rw (⊕-none ts) o, f, refl))) (λ j kind ys q. absurd (let z : _≡_ {A = ℕ} 0 1 = cc in omega arith))
-    decl-turns (suc n) (suc m) w u x h ts (first ∷ xs) l l₁ e o f =
-        eof-rule s u _ f (λ q i. absurd (let z : _≡_ {A = ℕ} 0 1 = cc in omega arith)) (λ j kind ys q.
-        call s parseDecl (moveTo j (u .row) u) _ _ (decl-rule (moveTo j (u .row) u) (first ∷ xs) f) (λ c v us zs r.
-        rw (r .1) (push-same s w u v _ x c o (r .2) (r .3) (λ y z q₁ o₁ f₁.
-        mapped (λ us. r .0 ▸ us) (decl-turns n m w z y h (ts ⊕ (r .0 ▸ none)) zs (omega (arith, r .4)) (omega (arith, r .4)) (q₁ ∙ e) o₁ f₁)
-        (λ b v us ws p. (p .0, rw (← ⊕-assoc ts (r .0 ▸ none) us) (p .1), p .2, p .3))))))
+  -- The declarations of an open file.
+  decl-turns : (n m : ℕ) (w u : World) (x : Unfinished) (h : ℕ) (ts : Trees) (xs : List RowToken) → length xs < n → length xs < m → x .node ≡ 0 → Open s w u x h 0 ts → Fits s u xs
+      → Sim (Made (λ y v us ys. (y .node ≡ 0) × Open s w v y h 0 (ts ⊕ us) × Fits s v ys × (ys ≡ []))) (turns (λ y v j. runs s (declTurn y) v j) n x u ok) (readDeclarations (s .rows) m xs)
+  unfolding run turns declTurn readDeclarations _⊕_
+  decl-turns zero m w u x h ts xs l l₁ e o f = absurd (omega arith)
+  decl-turns (suc n) zero w u x h ts xs l l₁ e o f = absurd (omega arith)
+  decl-turns (suc n) (suc m) w u x h ts [] l l₁ e o f =
+      eof-rule s u _ f (λ q i. gives (made (e, rw (⊕-none ts) o, f, refl))) (λ j kind ys q. absurd (let z : _≡_ {A = ℕ} 0 1 = cc in omega arith))
+  decl-turns (suc n) (suc m) w u x h ts (first ∷ xs) l l₁ e o f =
+      eof-rule s u _ f (λ q i. absurd (let z : _≡_ {A = ℕ} 0 1 = cc in omega arith)) (λ j kind ys q.
+      call s parseDecl (moveTo j (u .row) u) _ _ (decl-rule (moveTo j (u .row) u) (first ∷ xs) f) (λ c v us zs r.
+      rw (r .1) (push-same s w u v _ x c o (r .2) (r .3) (λ y z q₁ o₁ f₁.
+      mapped (λ us. r .0 ▸ us) (decl-turns n m w z y h (ts ⊕ (r .0 ▸ none)) zs (omega (arith, r .4)) (omega (arith, r .4)) (q₁ ∙ e) o₁ f₁)
+      (λ b v us ws p. (p .0, rw (← ⊕-assoc ts (r .0 ▸ none) us) (p .1), p .2, p .3))))))
 
-    -- The file, from an empty store on.
-    pub file-rule : (w : World) (xs : List RowToken) → w .store ≡ [] → w .values ≡ [] → w .sane ≡ true → Ahead s (w .row) xs → cost xs < 2 ^ 26 → length xs < s .bound
-        → Sim (Made (λ n u ts ys. (t : Tree) × (ts ≡ t ▸ none) × (n ≡ 0) × Built (s .text) (s .tokens) [] [] (u .store) (u .values) 0 t × (u .sane ≡ true) × (ys ≡ []))) (runs s parseFile w ok) (readFile (s .rows) xs)
-    unfolding run parseFile allocNode allocNodeFrom readFile branch _⊕_ isFlagged isName
-    file-rule w xs e q sane h room few =
-        let new = newNode (w .at) Node.File 0 in
-        let u : World = withStore (w .store ++ (new ∷ [])) w in
-        let x : Unfinished = record { node = length (w .store); last = 0 } in
-        let blank : World = record { at = 0; row = []; store = []; values = []; sane = true } in
-        let z : length (w .store) ≡ 0 = rw e refl in
-        let g : Open s blank u x (nodeHead Node.File 0) 0 none = opened (s .text) (s .tokens) {st = []} {u = 0} (w .store) (w .values) new (omega (arith, z)) (λ i l. absurd (omega arith)) (λ k p v d. rw q d) refl refl in
-        let f : Fits s u xs = record { ahead = h; room = rw q (omega (arith, room)); few = few; born = omega (arith, length-append (w .store) (new ∷ [])); sound = sane } in
-        call s (Loop x declTurn) u _ _ (decl-turns (s .bound) (suc (length xs)) blank u x (nodeHead Node.File 0) none xs few (omega arith) z g f) (λ y v us ys r.
-        close-same s blank v ok y (r .1) refl (r .2) (λ z d s. gives (made (_, refl, r .0, rw (r .0) at d, s, r .3))))
+  -- The file, from an empty store on.
+  pub file-rule : (w : World) (xs : List RowToken) → w .store ≡ [] → w .values ≡ [] → w .sane ≡ true → Ahead s (w .row) xs → cost xs < 2 ^ 26 → length xs < s .bound
+      → Sim (Made (λ n u ts ys. (t : Tree) × (ts ≡ t ▸ none) × (n ≡ 0) × Built (s .text) (s .tokens) [] [] (u .store) (u .values) 0 t × (u .sane ≡ true) × (ys ≡ []))) (runs s parseFile w ok) (readFile (s .rows) xs)
+  unfolding run parseFile allocNode allocNodeFrom readFile branch _⊕_ isFlagged isName
+  file-rule w xs e q sane h room few =
+      let new = newNode (w .at) Node.File 0 in
+      let u : World = withStore (w .store ++ (new ∷ [])) w in
+      let x : Unfinished = record { node = length (w .store); last = 0 } in
+      let blank : World = record { at = 0; row = []; store = []; values = []; sane = true } in
+      let z : length (w .store) ≡ 0 = rw e refl in
+      let g : Open s blank u x (nodeHead Node.File 0) 0 none = opened (s .text) (s .tokens) {st = []} {u = 0} (w .store) (w .values) new (omega (arith, z)) (λ i l. absurd (omega arith)) (λ k p v d. rw q d) refl refl in
+      let f : Fits s u xs = record { ahead = h; room = rw q (omega (arith, room)); few = few; born = omega (arith, length-append (w .store) (new ∷ [])); sound = sane } in
+      call s (Loop x declTurn) u _ _ (decl-turns (s .bound) (suc (length xs)) blank u x (nodeHead Node.File 0) none xs few (omega arith) z g f) (λ y v us ys r.
+      close-same s blank v ok y (r .1) refl (r .2) (λ z d s. gives (made (_, refl, r .0, rw (r .0) at d, s, r .3))))
