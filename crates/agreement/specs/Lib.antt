@@ -8,3 +8,4 @@ pub mod Branches
 pub mod Definitions
 pub mod Structs
 pub mod Statements
+pub mod Declarations
