@@ -1,5 +1,6 @@
 pub mod Run
 pub mod Sim
+pub mod Literals
 pub mod Steps
 pub mod Leaves
 pub mod Lists

@@ -1,2 +1,4 @@
 pub mod Read
 pub mod Cases
+pub mod Kinds
+pub mod Rows
