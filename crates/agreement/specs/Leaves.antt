@@ -24,6 +24,7 @@ use Rattle.chart.specs.Parser.{Outcome, on, failed}
 use Rattle.tree.specs.Stored.{said, isName, where-so}
 use Rattle.agreement.specs.Run.{run}
 use Rattle.agreement.specs.Sim.{Sim, fails, Setting, runs, lexemeOf, Fits, Taken, eat-rule, check-either, unexpected-rule}
+use Rattle.agreement.specs.Literals.{first-alike}
 use Rattle.agreement.specs.Steps.{isFlagged, Flagged, flagged, Done, Agrees, alloc-rule, close-rule}
 
 -- What a node says whose payload is the number of a token.
@@ -54,10 +55,10 @@ module _ (s : Setting) where
   unfolding said where-so
   name-said a values kind from j l e h t =
       let payload = firstAlike (s .text) (s .tokens) from j in
-      let (b, q) = a .alike from j h t in
+      let first = first-alike (s .text) (s .tokens) from j h t in
       let x : nodeKind (nodeHead kind payload) ≡ kind = high-pack 26 kind payload l in
-      let y : nodePayload (nodeHead kind payload) ≡ payload = low-pack 26 kind payload (omega (arith, a .few)) in
-      (x, rw (x, y, e, lt-ltb payload (length (s .tokens)) b, q))
+      let y : nodePayload (nodeHead kind payload) ≡ payload = low-pack 26 kind payload (omega (arith, a .few, first .inside)) in
+      (x, rw (x, y, e, lt-ltb payload (length (s .tokens)) (first .inside), first .spelled))
 
   module _ (a : Agrees s) {B : Type 0} {P : B → World → Outcome → Type 0} where
     pub name-rule : (w : World) (k : ℕ → World → Fate B) (kind from j : ℕ) {xs : List RowToken} {o : Outcome} → kind < 2 ^ 6 → isName kind ≡ true → j < length (s .tokens) → tokenKind (wordAt (s .tokens) j) ≡ from → Fits s w xs

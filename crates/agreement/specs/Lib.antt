@@ -8,5 +8,6 @@ pub mod Closing
 pub mod Branches
 pub mod Definitions
 pub mod Structs
+pub mod Numbers
 pub mod Statements
 pub mod Declarations

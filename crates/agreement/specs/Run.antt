@@ -53,7 +53,7 @@ module _ {B : Type 0} where
     bind-same fail k j h = refl
     bind-same (deep u) k j h = refl
 
-    turns-are : {S : Type 0} (body : S → World → (Turn S → World → Fate B) → Fate B) (f : S → World → Fate (Turn S)) (k : S → World → Fate B)
+    pub turns-are : {S : Type 0} (body : S → World → (Turn S → World → Fate B) → Fate B) (f : S → World → Fate (Turn S)) (k : S → World → Fate B)
         → ((y : S) (u : World) (j : Turn S → World → Fate B) → body y u j ≡ bindA (f y u) j) → (n : ℕ) (x : S) (w : World) → turns body n x w k ≡ bindA (iterA f n x w) k
     unfolding turns iterA
     turns-are body f k h zero x w = refl
@@ -95,3 +95,11 @@ bind-ok (deep u) = refl
 
 pub run-ok : (text tokens : List ℕ) (end bound : ℕ) (r : ReadersA) {A : Type 0} (p : Prog A) (w : World) → run text tokens end bound r p w ok ≡ evalA text tokens end bound r p w
 run-ok text tokens end bound r p w = run-is text tokens end bound r p w ok ∙ bind-ok _
+
+-- Turns and what comes after them.
+pub turns-then : (text tokens : List ℕ) (end bound : ℕ) (r : ReadersA) {S B : Type 0} (body : S → Prog (Turn S)) (n : ℕ) (x : S) (w : World) (k : S → World → Fate B)
+    → turns (λ y u j. run text tokens end bound r (body y) u j) n x w k ≡ bindA (turns (λ y u j. run text tokens end bound r (body y) u j) n x w ok) k
+turns-then text tokens end bound r {S} {B} body n x w k =
+    let f : S → World → Fate (Turn S) = λ y u. evalA text tokens end bound r (body y) u in
+    turns-are text tokens end bound r _ f k (λ y u j. run-is text tokens end bound r (body y) u j) n x w
+    ∙ ap (λ (g : Fate S). bindA g k) (sym (turns-are text tokens end bound r _ f ok (λ y u j. run-is text tokens end bound r (body y) u j) n x w ∙ bind-ok (iterA f n x w)))

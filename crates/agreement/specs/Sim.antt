@@ -8,9 +8,11 @@ use lib.Dec.{eqb}
 use borrow.Author.Tests.{eqb-true, eq-eqb}
 use lib.ListN.{length}
 use Rattle.words.specs.Token
+use Rattle.words.specs.Token.{lexError}
+use Rattle.words.specs.declared.token.LexError.the-variants.{Nothing}
 use Rattle.words.specs.Words.{tokenKind}
 use Rattle.literals.specs.Spelling.{wordAt}
-use Rattle.definition.specs.Prog.{Prog, peek, pass}
+use Rattle.definition.specs.Prog.{Turn, Prog, peek, pass}
 use Rattle.definition.specs.Tokens.{check, eat, eof, emitUnexpected, expect}
 use Rattle.definition.specs.Abstract.{Seen, good, bad, stray, Node, World, Fate, ok, fail, deep, bindA, moveTo, kindA, passA, skipA, ReadersA, evalA}
 use Rattle.chart.specs.Row.{Lexeme, RowToken, token, begins}
@@ -18,7 +20,7 @@ use Rattle.chart.specs.Tree.{Trees}
 use Rattle.chart.specs.Parser.{Outcome, if, on, bind, try, nothing, failed}
 use Rattle.chart.specs.Parser as Chart
 use Rattle.tree.specs.Rows.{lexeme}
-use Rattle.agreement.specs.Run.{run, run-is, run-ok}
+use Rattle.agreement.specs.Run.{run, turns, run-is, run-ok, turns-then}
 
 -- What a program comes to beside an outcome: an answer, of which P holds; a report, where the row is in no rule; too deep, both of them.
 pub data Sim {A : Type 0} (P : A → World → Outcome → Type 0) : Fate A → Outcome → Type 0 where
@@ -69,6 +71,12 @@ call s {A} {B} {P = P} p w k c {o} h g =
     let q : runs s {A = A} {B = B} p w k ≡ bindA (evalA (s .text) (s .tokens) (s .end) (s .bound) (s .readers) p w) k = run-is (s .text) (s .tokens) (s .end) (s .bound) (s .readers) p w k in
     subst (λ f. Sim P f (bind o c)) (sym q) (then k c (rw e at h) g)
 
+-- A loop whose agreement is known, with so many turns left.
+pub call-turns : (s : Setting) {S B : Type 0} {Q : S → World → Trees → List RowToken → Type 0} {P : B → World → Outcome → Type 0} (body : S → Prog (Turn S)) (n : ℕ) (x : S) (w : World) (k : S → World → Fate B) (c : Trees → List RowToken → Outcome) {o : Outcome}
+    → Sim (Made Q) (turns (λ y u j. runs s (body y) u j) n x w ok) o → ((a : S) (u : World) (ts : Trees) (ys : List RowToken) → Q a u ts ys → Sim P (k a u) (c ts ys)) → Sim P (turns (λ y u j. runs s (body y) u j) n x w k) (bind o c)
+call-turns s {S} {B} {P = P} body n x w k c {o} h g =
+    subst (λ f. Sim P f (bind o c)) (sym (turns-then (s .text) (s .tokens) (s .end) (s .bound) (s .readers) body n x w k)) (then k c h g)
+
 -- The same, where trees may be there.
 pub call-try : (s : Setting) {A B : Type 0} {Q : A → World → Outcome → Type 0} {P : B → World → Outcome → Type 0} (p : Prog A) (w : World) (k : A → World → Fate B) (c : Trees → List RowToken → Outcome) (z : Outcome) {o : Outcome}
     → Sim Q (runs s p w ok) o → ((a : A) (u : World) → Q a u o → Sim P (k a u) (try o c z)) → Sim P (runs s p w k) (try o c z)
@@ -93,7 +101,7 @@ module _ (s : Setting) where
   pub data Ahead : List Seen → List RowToken → Type 0 where
     over : Ahead [] []
     eof-ahead : {i : ℕ} → Ahead (good i Token.Eof ∷ []) []
-    next : {i k : ℕ} {row : List Seen} {xs : List RowToken} → i < length (s .tokens) → tokenKind (wordAt (s .tokens) i) ≡ k → eqb k Token.Eof ≡ false → Ahead row xs
+    next : {i k : ℕ} {row : List Seen} {xs : List RowToken} → i < length (s .tokens) → tokenKind (wordAt (s .tokens) i) ≡ k → eqb k Token.Eof ≡ false → lexError k ≡ Nothing → Ahead row xs
         → Ahead (good i k ∷ row) (token k (lexemeOf s i) ∷ xs)
 
   -- Where a program begins: the row that is ahead; payloads have room for offsets of values, and loops for the tokens; File is there, and
@@ -116,6 +124,15 @@ module _ (s : Setting) where
     pub fit : Fit (w .store) (w .values) row (w .sane) ys
     pub shorter : length ys < length xs
 
+  -- No token that is ahead is an error.
+  clean-ahead : {row : List Seen} {zs xs : List RowToken} {kind : ℕ} {v : Lexeme} → Ahead row zs → zs ≡ token kind v ∷ xs → lexError kind ≡ Nothing
+  clean-ahead over q = absurd (let z : _≡_ {A = ℕ} 0 1 = cc in omega arith)
+  clean-ahead eof-ahead q = absurd (let z : _≡_ {A = ℕ} 0 1 = cc in omega arith)
+  clean-ahead {kind = kind} (next {k = k} l t n c a) q = let z : k ≡ kind = cc in rw z at c
+
+  pub first-clean : (w : World) {xs ys : List RowToken} {kind : ℕ} {v : Lexeme} → Fits w xs → xs ≡ token kind v ∷ ys → lexError kind ≡ Nothing
+  first-clean w f e = clean-ahead (f .ahead) e
+
   -- What is ahead once a token is passed.
   passed-fit : (w : World) {xs ys : List RowToken} {K : ℕ} {v : Lexeme} {row : List Seen} → Fits w xs → xs ≡ token K v ∷ ys → Ahead row ys → Fit (w .store) (w .values) row (w .sane) ys
   unfolding cost
@@ -130,7 +147,7 @@ module _ (s : Setting) where
     unfolding run skipA kindA
     peek-at w k e over h g = rw e (rw e at (h (s .end) refl))
     peek-at w k e (eof-ahead {i}) h g = rw e (rw e at (h i refl))
-    peek-at w k e (next {i} {k = kind} {xs = ys} l t n a) h g = rw e (rw e at (g i kind ys refl n))
+    peek-at w k e (next {i} {k = kind} {xs = ys} l t n c a) h g = rw e (rw e at (g i kind ys refl n))
 
     pub peek-rule : (w : World) (k : ℕ → World → Fate B) {xs : List RowToken} {o : Outcome} → Fits w xs
         → ((i : ℕ) → xs ≡ [] → Sim P (k Token.Eof (moveTo i (w .row) w)) o)
@@ -145,7 +162,7 @@ module _ (s : Setting) where
     unfolding run skipA passA
     pass-at w k e over q h = absurd (let z : _≡_ {A = ℕ} 0 1 = cc in omega arith)
     pass-at w k e eof-ahead q h = absurd (let z : _≡_ {A = ℕ} 0 1 = cc in omega arith)
-    pass-at w k {ys = ys} {K = K} {v = v} e (next {i} {k = kind} {row = rest} {xs = xs} l t n a) q h =
+    pass-at w k {ys = ys} {K = K} {v = v} e (next {i} {k = kind} {row = rest} {xs = xs} l t n c a) q h =
         let z : xs ≡ ys = cc in
         let a′ : Ahead rest ys = rw z at a in
         let t′ : kind ≡ K = cc in

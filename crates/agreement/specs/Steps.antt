@@ -12,8 +12,7 @@ use lib.Dec.{eqb, ltb, leb}
 use lib.ListN.{length, length-append}
 use Rattle.words.specs.Token
 use Rattle.words.specs.Node
-use Rattle.words.specs.Words.{tokenKind, nodeKind, nodePayload, nodeHead}
-use Rattle.literals.specs.Spelling.{wordAt, spelling, firstAlike}
+use Rattle.words.specs.Words.{nodeKind, nodePayload, nodeHead}
 use Rattle.definition.specs.declared.Mode.{Mode}
 use Rattle.definition.specs.declared.Unfinished.{Unfinished}
 use Rattle.definition.specs.Prog.{Prog, Then, endWord, headWord, enterExpr, enterBlock}
@@ -172,8 +171,6 @@ module _ (s : Setting) where
   -- The readers one level deeper agree, and payloads have room for the numbers of tokens.
   pub record Agrees : Type 0 where
     pub few : length (s .tokens) ≤ 2 ^ 26
-    pub alike : (kind i : ℕ) → i < length (s .tokens) → tokenKind (wordAt (s .tokens) i) ≡ kind
-        → (firstAlike (s .text) (s .tokens) kind i < length (s .tokens)) × (spelling (s .text) (s .tokens) (firstAlike (s .text) (s .tokens) kind i) ≡ spelling (s .text) (s .tokens) i)
     pub exprs : (mode : Mode) (min level : ℕ) (w : World) (xs : List RowToken) → Ranked min level → Fits s w xs → Sim (Found w xs) (s .readers .expr mode min w) (s .rows .expr (allowsStructLiteral mode) level xs)
     pub blocks : (start kind : ℕ) (w : World) (xs : List RowToken) → isFlagged kind 0 ≡ true → Fits s w xs → Sim (Blocked w kind xs) (s .readers .block start kind w) (s .rows .block xs)
 

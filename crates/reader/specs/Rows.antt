@@ -234,15 +234,15 @@ module _ (s : Setting) where
   unfolding seenFrom lexemes
   ahead-from i (last-word {w = w} k e l) h q c = unfold isTrivia lexError in (rw (kind-known (s .tokens) i w [] h ∙ k) eof-ahead)
   ahead-from i (next-word {w = w} {ws = ws} k g m l) h q c =
-      go (tokenKind (wordAt (s .tokens) i)) refl (isTrivia (tokenKind (wordAt (s .tokens) i))) (lexError (tokenKind (wordAt (s .tokens) i))) (rw (kind-known (s .tokens) i w ws h) k) c
+      go (tokenKind (wordAt (s .tokens) i)) refl (isTrivia (tokenKind (wordAt (s .tokens) i))) (lexError (tokenKind (wordAt (s .tokens) i))) refl (rw (kind-known (s .tokens) i w ws h) k) c
       (ahead-from (suc i) l (from-tail (s .tokens) i w ws h) (omega arith))
     where
-      go : (kind : ℕ) → tokenKind (wordAt (s .tokens) i) ≡ kind → (t : Bool) (x : LexError) → eqb kind Token.Eof ≡ false → Clean (seen t x i kind (seenFrom (s .tokens) (suc i) (length ws)))
+      go : (kind : ℕ) → tokenKind (wordAt (s .tokens) i) ≡ kind → (t : Bool) (x : LexError) → lexError kind ≡ x → eqb kind Token.Eof ≡ false → Clean (seen t x i kind (seenFrom (s .tokens) (suc i) (length ws)))
           → (Clean (seenFrom (s .tokens) (suc i) (length ws)) → Stands (seenFrom (s .tokens) (suc i) (length ws))) → Stands (seen t x i kind (seenFrom (s .tokens) (suc i) (length ws)))
-      go kind p true Nothing n c ih = ih c
-      go kind p true (Is error) n c ih = absurd (clean-sound c)
-      go kind p false Nothing n (also c) ih = rw n (next {i = i} (omega arith) p n (ih c))
-      go kind p false (Is error) n c ih = absurd (clean-sound c)
+      go kind p true Nothing y n c ih = ih c
+      go kind p true (Is error) y n c ih = absurd (clean-sound c)
+      go kind p false Nothing y n (also c) ih = rw n (next {i = i} (omega arith) p n y (ih c))
+      go kind p false (Is error) y n c ih = absurd (clean-sound c)
 
   pub rows-ahead : {limit : ℕ} → Laid limit 0 (s .tokens) → Clean (seenFrom (s .tokens) 0 (length (s .tokens))) → Ahead s (seenFrom (s .tokens) 0 (length (s .tokens))) (row (s .text) (s .tokens))
   rows-ahead l c = rw (rows-same (s .text) (s .tokens) c) (ahead-from 0 l (from-all (s .tokens)) (omega arith) c)
