@@ -9,5 +9,6 @@ pub mod Branches
 pub mod Definitions
 pub mod Structs
 pub mod Numbers
+pub mod Strings
 pub mod Statements
 pub mod Declarations

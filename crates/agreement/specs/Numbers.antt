@@ -1,4 +1,4 @@
--- Number literals and string literals.
+-- Number literals.
 use mathlib.Core.Path.{_≡_, refl, sym, _∙_, ap, subst}
 use mathlib.Core.Bool.{Bool, true, false, cond, _||_, true≢false, false≢true}
 use mathlib.Core.Option.{Option}
@@ -15,11 +15,9 @@ use Rattle.words.specs.Node
 use Rattle.words.specs.Words.{nodeKind, nodePayload, nodeHead}
 use Rattle.literals.specs.Spelling as Source
 use Rattle.literals.specs.Numbers.{digits, numberValue, limbs}
-use Rattle.literals.specs.Strings.{Event, byte, report, bytesOf, decodeString, decodeHex, stringValue}
 use Rattle.definition.specs.declared.Unfinished.{Unfinished}
 use Rattle.definition.specs.Prog.{Turn, again, stop, Prog, Then, Give, Branch, Loop, peek, pass, position, here, spelling, value}
 use Rattle.definition.specs.Nodes.{Radix, radixOf, tryParseNumLiteral, allocLastTokenAsNode, allocNodeFrom, closeNodeAt, skipTriviaStart}
-use Rattle.definition.specs.Strings.{emitEvents, StringBuf, decodeToken, stringTurn, tryParseStringLiteral}
 use Rattle.definition.specs.Expressions.{numLiteral}
 use Rattle.definition.specs.Abstract.{Seen, Node, World, Fate, ok, moveTo, withValue}
 use Rattle.chart.specs.Row.{Lexeme, RowToken, token, begins}
@@ -31,12 +29,12 @@ use Rattle.tree.specs.Grown.{Built}
 use Rattle.tree.specs.Values.{says-more, number-read, string-read, AreBytes}
 use Rattle.agreement.specs.Run.{run, turns}
 use Rattle.agreement.specs.Sim.{Sim, gives, fails, sinks, Made, made, mapped, call, call-turns, Setting, runs, lexemeOf, Fit, Fits, Taken, cost, first-clean, peek-rule, pass-rule}
-use Rattle.agreement.specs.Literals.{head-parts, number-few, string-bytes-same, string-quiet-same, hex-bytes-same, hex-quiet-same, string-few, hex-string-few, are-bytes-append, string-are-bytes, hex-are-bytes, string-value-few}
+use Rattle.agreement.specs.Literals.{head-parts, number-few}
 use Rattle.agreement.specs.Steps.{Done, Agrees}
 use Rattle.agreement.specs.Leaves.{last-rule}
 
 -- What was built after a value was added was built before, too.
-built-before : (text tokens : List ℕ) {st cur : List Node} {more : List ℕ} (values ws : List ℕ) {n : ℕ} {t : Tree} → Built text tokens st (values ++ ws) cur more n t → Built text tokens st values cur more n t
+pub built-before : (text tokens : List ℕ) {st cur : List Node} {more : List ℕ} (values ws : List ℕ) {n : ℕ} {t : Tree} → Built text tokens st (values ++ ws) cur more n t → Built text tokens st values cur more n t
 built-before text tokens values ws b =
     record { old = b .old; says = λ k p v x. b .says k p v (says-more text tokens values ws k p v x); low = b .low; high = b .high; root = b .root; tree = b .tree; size-is = b .size-is }
 

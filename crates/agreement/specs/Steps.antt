@@ -116,15 +116,21 @@ module _ (s : Setting) where
         h (record { node = x .node; last = c }) (withLink (x .node) (x .last) c v) p
         (record { ahead = f .ahead; room = f .room; few = f .few; born = rw (adopted-length (x .node) c (v .store)) (f .born); sound = both _ _ (f .sound) m })
 
-    -- The node is closed, where its first word says something.
+    -- The node is closed at a token number, where its first word says something.
+    pub close-at : (w u : World) (k : ℕ → World → Fate B) (x : Unfinished) (e : ℕ) {h : ℕ} {v : Value} {ts : Trees} {xs : List RowToken} {o : Outcome} → Open w u x h 0 ts → said (s .text) (s .tokens) (u .values) (nodeKind h) (nodePayload h) ≡ Option.some v
+        → Fits s u xs → ((n : ℕ) (z : World) → Done w z n (node (nodeKind h) v ts) → Fits s z xs → Sim P (k n z) o)
+        → Sim P (runs s (closeNodeAt x e) u k) o
+    unfolding run closeNodeAt
+    close-at w u k x e g q f h =
+        h (x .node) (withStore (written (x .node) endWord e (u .store)) u)
+        (closed (s .text) (s .tokens) (ended (s .text) (s .tokens) (x .node) e (g .low) g) q)
+        (store-fit u (withStore (written (x .node) endWord e (u .store)) u) f (le-of-eq (sym (written-length (x .node) endWord e (u .store)))) refl refl refl)
+
     pub close-rule : (w u : World) (k : ℕ → World → Fate B) (x : Unfinished) {h : ℕ} {v : Value} {ts : Trees} {xs : List RowToken} {o : Outcome} → Open w u x h 0 ts → said (s .text) (s .tokens) (u .values) (nodeKind h) (nodePayload h) ≡ Option.some v
         → Fits s u xs → ((n : ℕ) (z : World) → Done w z n (node (nodeKind h) v ts) → Fits s z xs → Sim P (k n z) o)
         → Sim P (runs s (closeNode x) u k) o
-    unfolding run closeNode closeNodeAt
-    close-rule w u k x g e f h =
-        h (x .node) (withStore (written (x .node) endWord (u .at) (u .store)) u)
-        (closed (s .text) (s .tokens) (ended (s .text) (s .tokens) (x .node) (u .at) (g .low) g) e)
-        (store-fit u (withStore (written (x .node) endWord (u .at) (u .store)) u) f (le-of-eq (sym (written-length (x .node) endWord (u .at) (u .store)))) refl refl refl)
+    unfolding run closeNode
+    close-rule w u k x g q f h = close-at w u k x (u .at) g q f h
 
     -- A kind with flags or an operator.
     pub close-branch : (w u : World) (k : ℕ → World → Fate B) (x : Unfinished) {kind payload : ℕ} {ts : Trees} {xs : List RowToken} {o : Outcome} → Open w u x (nodeHead kind payload) 0 ts → isFlagged kind payload ≡ true
