@@ -57,6 +57,12 @@ append-assoc : (a b c : List ℕ) → (a ++ b) ++ c ≡ a ++ (b ++ c)
 append-assoc [] b c = refl
 append-assoc (x ∷ a) b c = ap (λ (ys : List ℕ). x ∷ ys) (append-assoc a b c)
 
+-- What the node of a string says, its value just made.
+string-said : (text tokens values bs : List ℕ) → length values < 2 ^ 26 → AreBytes bs → length bs < 2 ^ 30
+    → (nodeKind (nodeHead Node.StringLiteral (length values)) ≡ Node.StringLiteral) × (said text tokens (values ++ stringValue bs) (nodeKind (nodeHead Node.StringLiteral (length values))) (nodePayload (nodeHead Node.StringLiteral (length values))) ≡ Option.some (bytes bs))
+unfolding said isName
+string-said text tokens values bs h a g = let (x, y) = head-parts Node.StringLiteral (length values) (lit< tt) h in (x, rw (x, y) (string-read values bs a g))
+
 module _ (s : Setting) where
   -- The reports of decoding.
   module _ {B : Type 0} {P : B → World → Outcome → Type 0} where
@@ -126,7 +132,7 @@ module _ (s : Setting) where
     -- One turn: a string token, or none. `F` is what the chart does after bytes.
     turn-rule : (w : World) (k : Turn StringBuf → World → Fate B) (b : StringBuf) {xs : List RowToken} (F : List ℕ → List RowToken → Outcome) (m : Outcome) → Fits s w xs
         → ((j K : ℕ) (ds : List ℕ) (ys : List RowToken) (i : ℕ) (row : List Seen) → xs ≡ token K (lexemeOf s j) ∷ ys → AreBytes ds → length ds ≤ length (lexemeOf s j .spelling)
-            → Fit s (w .store) (w .values) row (w .sane) ys → Sim P (k (again (record { bytes = b .bytes ++ ds; end = Option.some (suc i) })) (moveTo (suc i) row w)) (F ds ys))
+        → Fit s (w .store) (w .values) row (w .sane) ys → Sim P (k (again (record { bytes = b .bytes ++ ds; end = Option.some (suc i) })) (moveTo (suc i) row w)) (F ds ys))
         → ((i : ℕ) → Sim P (k (stop b) (moveTo i (w .row) w)) m)
         → Sim P (runs s (stringTurn b) w k)
         (on Token.LooseStringLiteral xs (λ v ys. if (quiet (decoded v)) (F (bytesOf (decoded v)) ys) failed) (on Token.LooseHexStringLiteral xs (λ v ys. if (quiet (decodedHex v)) (F (bytesOf (decodedHex v)) ys) failed) m))
@@ -164,3 +170,62 @@ module _ (s : Setting) where
       mapped (prepend ds) (string-turns n m (moveTo (suc i) row w) (bs ++ ds) (record { bytes = b .bytes ++ ds; end = Option.some (suc i) }) (suc i) ys (omega arith) (omega arith) (ap (λ (c : List ℕ). c ++ ds) q) refl f₁)
       (λ b₁ u t zs. strung-more ds a few e₁))
       (λ i. gives (made (strung i (w .row) [] e (q ∙ sym (append-none bs)) p f tt (omega arith) (omega arith))))
+
+  module _ {B : Type 0} {P : B → World → Outcome → Type 0} where
+    -- The value and the node of a string.
+    string-end : (w u : World) (k : Option ℕ → World → Fate B) (start e : ℕ) (bs : List ℕ) {xs ys : List RowToken} {o : Outcome} → u .store ≡ w .store → u .values ≡ w .values → Fits s w xs → Fits s u ys → AreBytes bs → suc (length bs) + cost ys ≤ cost xs
+        → ((n : ℕ) (z : World) → Done s w z n (node Node.StringLiteral (bytes bs) none) → Fits s z ys → Sim P (k (Option.some n) z) o)
+        → Sim P (runs s (value (stringValue bs)) u (λ offset v. runs s (allocNodeFrom start Node.StringLiteral offset) v (λ x z. runs s (closeNodeAt x e) z (λ n z₁. k (Option.some n) z₁)))) o
+    unfolding run
+    string-end w u k start e bs {xs} {ys} es ev f f₁ a l g =
+        let few : length (stringValue bs) ≤ suc (length bs) = string-value-few bs in
+        let same : length (u .values) ≡ length (w .values) = ap length ev in
+        let x = string-said (s .text) (s .tokens) (u .values) bs (omega (arith, f .room)) a (omega (arith, f .room)) in
+        let f₂ : Fits s (withValue (stringValue bs) u) ys = record { ahead = f₁ .ahead; room = rw (length-append (u .values) (stringValue bs)) (omega (arith, f .room)); few = f₁ .few; born = f₁ .born; sound = f₁ .sound } in
+        alloc-rule s (withValue (stringValue bs) u) _ start Node.StringLiteral (length (u .values)) f₂ (λ y v o f₃.
+        close-at s (withValue (stringValue bs) u) v _ y e o (o .says _ _ _ (x .1)) f₃ (λ n z d f₄.
+        g n z (rw (es, ev) at (built-before (s .text) (s .tokens) (u .values) (stringValue bs) (rw (x .0) at d))) f₄))
+
+    -- `try_parse_string_literal` beside the strings of the chart.
+    pub string-rule : (w : World) (k : Option ℕ → World → Fate B) {xs : List RowToken} (m : Outcome) → Fits s w xs
+        → ((n : ℕ) (u : World) (bs : List ℕ) (ys : List RowToken) → Done s w u n (node Node.StringLiteral (bytes bs) none) → Fits s u ys → length ys < length xs → Sim P (k (Option.some n) u) (Chart.ok (stringTree bs) ys))
+        → ((i : ℕ) → Sim P (k Option.none (moveTo i (w .row) w)) m)
+        → Sim P (runs s tryParseStringLiteral w k)
+        (on Token.LooseStringLiteral xs (λ v ys. if (quiet (decoded v)) (bind (readStrings (suc (length ys)) ys) (λ t zs. Chart.ok (prepend (bytesOf (decoded v)) t) zs)) failed)
+        (on Token.LooseHexStringLiteral xs (λ v ys. if (quiet (decodedHex v)) (bind (readStrings (suc (length ys)) ys) (λ t zs. Chart.ok (prepend (bytesOf (decodedHex v)) t) zs)) failed) m))
+    unfolding run turns tryParseStringLiteral skipTriviaStart prepend cost
+    string-rule w k {xs} m f g z =
+        peek-rule s w (λ _ u. turns (λ y v j. runs s (stringTurn y) v j) (s .bound) (record { bytes = []; end = Option.none }) u (after (u .at))) f
+        (λ i e. first i (s .bound) (f .few)) (λ j kind ys e _. first j (s .bound) (f .few))
+      where
+        -- What comes after the loop, by where the strings end and their bytes.
+        afterwards : ℕ → Option ℕ → List ℕ → World → Fate B
+        afterwards start e bs u =
+            runs s {A = Option ℕ} (elim e [
+              | Option.none ↦ Give Option.none
+              | Option.some e ↦ Then (value (stringValue bs)) (λ offset. Then (allocNodeFrom start Node.StringLiteral offset) (λ x. Then (closeNodeAt x e) (λ n. Give (Option.some n))))
+            ]) u k
+
+        after : ℕ → StringBuf → World → Fate B
+        after start b u = afterwards start (b .end) (b .bytes) u
+
+        ended : (start i : ℕ) (row : List Seen) (j K : ℕ) (ds : List ℕ) (ys : List RowToken) → xs ≡ token K (lexemeOf s j) ∷ ys → AreBytes ds → length ds ≤ length (lexemeOf s j .spelling) → (b : StringBuf) (u : World) (t : Trees) (zs : List RowToken)
+            → Strung (moveTo (suc i) row w) ds ys b u t zs → Sim P (after start b u) (Chart.ok (prepend ds t) zs)
+        ended start i row j K ds ys e a few b _ _ zs (strung i₁ row₁ cs n q p f₁ h l l₁) =
+            let long : length (ds ++ cs) ≡ length ds + length cs = length-append ds cs in
+            let short : length xs ≡ suc (length ys) = ap length e in
+            let all : cost xs ≡ suc (length (lexemeOf s j .spelling)) + cost ys = ap cost e in
+            rw (p, q) (string-end w (moveTo i₁ row₁ w) k start n (ds ++ cs) refl refl f f₁ (are-bytes-append ds cs a h) (omega arith) (λ m z d f₂. g m z (ds ++ cs) zs d f₂ (omega arith)))
+
+        first : (start n : ℕ) → length xs < n → Sim P (turns (λ y v j. runs s (stringTurn y) v j) n (record { bytes = []; end = Option.none }) (moveTo start (w .row) w) (after start))
+            (on Token.LooseStringLiteral xs (λ v ys. if (quiet (decoded v)) (bind (readStrings (suc (length ys)) ys) (λ t zs. Chart.ok (prepend (bytesOf (decoded v)) t) zs)) failed)
+            (on Token.LooseHexStringLiteral xs (λ v ys. if (quiet (decodedHex v)) (bind (readStrings (suc (length ys)) ys) (λ t zs. Chart.ok (prepend (bytesOf (decodedHex v)) t) zs)) failed) m))
+        first start zero l = absurd (omega arith)
+        first start (suc n) l =
+            turn-rule (moveTo start (w .row) w) _ (record { bytes = []; end = Option.none }) (λ ds ys. bind (readStrings (suc (length ys)) ys) (λ t zs. Chart.ok (prepend ds t) zs)) m f
+            (λ j K ds ys i row e a few f₁.
+            let short : length xs ≡ suc (length ys) = ap length e in
+            call-turns s stringTurn n (record { bytes = ds; end = Option.some (suc i) }) (moveTo (suc i) row w) (after start) _
+            (string-turns n (suc (length ys)) (moveTo (suc i) row w) ds (record { bytes = ds; end = Option.some (suc i) }) (suc i) ys (omega arith) (omega arith) refl refl f₁)
+            (λ b u t zs. ended start i row j K ds ys e a few b u t zs))
+            z
