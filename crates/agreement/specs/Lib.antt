@@ -10,5 +10,6 @@ pub mod Definitions
 pub mod Structs
 pub mod Numbers
 pub mod Strings
+pub mod Operands
 pub mod Statements
 pub mod Declarations
