@@ -72,3 +72,46 @@ module _ (s : Setting) (a : Agrees s) where
       (tuple-turns (s .bound) (suc (length ws)) (moveTo i (w .row) w) z₁ y _ (t ▸ none) ws (f₄ .few) (omega arith) o₂ f₄)
       (λ e z₂ us vs r. close-branch s (moveTo i (w .row) w) z₂ k e (r .opened) refl (r .fit) (λ n₁ z₃ d₁ f₅. g n₁ z₃ _ vs d₁ f₅ (omega (arith, q .shorter, r .shorter))))))
       (λ _ i₁. expect-rule s (moveTo i₁ (z .row) z) _ _ refl f₃ (λ j row ws q. close-branch s (moveTo i (w .row) w) (moveTo (suc j) row z) k y o₁ refl (q .fit) (λ n₁ z₁ d₁ f₄. h n₁ z₁ _ ws d₁ f₄ (omega (arith, q .shorter)))))))))
+
+  -- ---- all of them
+
+  -- A builtin's name.
+  builtin-rule : {B : Type 0} {P : B → World → Outcome → Type 0} (w : World) (k : Option ℕ → World → Fate B) (h : Lexeme → List RowToken → Outcome) {xs : List RowToken} {m : Outcome} → Fits s w xs
+      → ((n : ℕ) (u : World) (j : ℕ) (ys : List RowToken) → Done s w u n (nameTree Node.BuiltinName (lexemeOf s j .spelling)) → Fits s u ys → length ys < length xs → Sim P (k (Option.some n) u) (h (lexemeOf s j) ys))
+      → ((i : ℕ) → Sim P (k Option.none (moveTo i (w .row) w)) m)
+      → Sim P (runs s tryParseBuiltinName w k) (on Token.BuiltinName xs h m)
+  unfolding run tryParseBuiltinName isName
+  builtin-rule w k h f hit miss =
+      eat-rule s w _ h refl f
+      (λ j row ys t. name-rule s a (moveTo (suc j) row w) _ Node.BuiltinName Token.BuiltinName j (lit< tt) refl (t .inside) (t .kind) (t .fit) (λ n u d g. hit n u j ys d g (t .shorter)))
+      (λ _ i. miss i)
+
+  pub operand-read : (w : World) (xs : List RowToken) → Fits s w xs → Sim (Found s w xs) (runs s tryParseStandaloneExpr w ok) (readOperand (s .rows) xs)
+  unfolding run tryParseStandaloneExpr eats checks eagerFunction tryParseConditional tryParseMatch readOperand readStruct branch isFlagged isName isOdd rootKind begins Tree.flag
+  operand-read w xs f =
+      eat-rule s w _ _ refl f (λ j row ys t. last-flagged s (moveTo (suc j) row w) _ Node.BoolLiteral Flag.BoolLiteral-true refl (t .fit) (λ n u d f₁. gives (found d f₁ (t .shorter) (λ _. refl)))) (λ _ i₁.
+      eat-rule s (moveTo i₁ (w .row) w) _ _ refl f (λ j row ys t. last-flagged s (moveTo (suc j) row w) _ Node.BoolLiteral 0 refl (t .fit) (λ n u d f₁. gives (found d f₁ (t .shorter) (λ _. refl)))) (λ _ i₂.
+      number-rule s (moveTo i₂ (w .row) w) _ _ f (λ n u v ys d f₁ l. gives (found d f₁ l (λ _. refl))) (λ i₃.
+      string-rule s (moveTo i₃ (w .row) w) _ _ f (λ n u bs ys d f₁ l. gives (found d f₁ l (λ _. refl))) (λ i₄.
+      eat-rule s (moveTo i₄ (w .row) w) _ _ refl f (λ j row ys t. last-flagged s (moveTo (suc j) row w) _ Node.SelfType 0 refl (t .fit) (λ n u d f₁. gives (found d f₁ (t .shorter) (λ _. refl)))) (λ _ i₅.
+      ident-rule s a (moveTo i₅ (w .row) w) _ _ f (λ n u j ys d f₁ l. gives (found d f₁ l (λ _. refl))) (λ _ i₆.
+      builtin-rule (moveTo i₆ (w .row) w) _ _ f (λ n u j ys d f₁ l. gives (found d f₁ l (λ _. refl))) (λ i₇.
+      eat-rule s (moveTo i₇ (w .row) w) _ _ refl f (λ j row ys t. round-rule (moveTo (suc j) row w) _ _ (t .fit)
+          (λ n u ts zs d f₁ l. gives (found d f₁ (omega (arith, t .shorter)) (λ _. refl))) (λ n u ts zs d f₁ l. gives (found d f₁ (omega (arith, t .shorter)) (λ _. refl)))) (λ _ i₈.
+      eat-rule s (moveTo i₈ (w .row) w) _ _ refl f (λ j row ys t. block-rule s a (moveTo (suc j) row w) _ _ _ Node.ComptimeBlock refl (t .fit)
+          (λ n u ts zs d f₁ l. gives (found d f₁ (omega (arith, t .shorter)) (λ q. absurd (true≢false (rw (t .first) at q)))))) (λ _ i₉.
+      eat-rule s (moveTo i₉ (w .row) w) _ _ refl f (λ j row ys t. expect-rule s (moveTo (suc j) row w) _ _ refl (t .fit) (λ j₁ row₁ zs t₁. function-rule s a (moveTo (suc j₁) row₁ w) _ _ _ true (t₁ .fit)
+          (λ n u ts vs d f₁ l. gives (found d f₁ (omega (arith, t .shorter, t₁ .shorter)) (λ _. refl))))) (λ _ i₁₀.
+      eat-rule s (moveTo i₁₀ (w .row) w) _ _ refl f (λ j row ys t. function-rule s a (moveTo (suc j) row w) _ _ _ false (t .fit)
+          (λ n u ts vs d f₁ l. gives (found d f₁ (omega (arith, t .shorter)) (λ _. refl)))) (λ _ i₁₁.
+      eat-rule s (moveTo i₁₁ (w .row) w) _ _ refl f (λ j row ys t. struct-rule s a (moveTo (suc j) row w) _ (λ ts vs. Chart.ok (branch Node.StructDef 0 ts) vs) _ (t .fit)
+          (λ n u ts vs d f₁ l. gives (found d f₁ (omega (arith, t .shorter)) (λ _. refl)))) (λ _ i₁₂.
+      eat-rule s (moveTo i₁₂ (w .row) w) _ _ refl f (λ j row ys t. tuple-type-rule s a (moveTo (suc j) row w) _ _ _ (t .fit)
+          (λ n u ts vs d f₁ l. gives (found d f₁ (omega (arith, t .shorter)) (λ _. refl)))) (λ _ i₁₃.
+      check-rule s (moveTo i₁₃ (w .row) w) _ _ refl f (λ j ys q. here-rule s a (moveTo j (w .row) w) _ _ (rw q at f)
+          (λ n u ts vs d f₁ l. gives (found d f₁ (rw q l) (λ _. refl)))) (λ _ i₁₄.
+      eat-rule s (moveTo i₁₄ (w .row) w) _ _ refl f (λ j row ys t. if-rule s a (moveTo (suc j) row w) _ (λ ts vs. Chart.ok (branch Node.If 0 ts) vs) _ (t .fit)
+          (λ n u ts vs d f₁ l. gives (found d f₁ (omega (arith, t .shorter)) (λ _. refl)))) (λ _ i₁₅.
+      eat-rule s (moveTo i₁₅ (w .row) w) _ _ refl f (λ j row ys t. match-rule s a (moveTo (suc j) row w) _ (λ ts vs. Chart.ok (branch Node.Match 0 ts) vs) _ (t .fit)
+          (λ n u ts vs d f₁ l. gives (found d f₁ (omega (arith, t .shorter)) (λ _. refl)))) (λ _ i₁₆.
+      gives (not-found i₁₆)))))))))))))))))
