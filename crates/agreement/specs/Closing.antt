@@ -4,22 +4,22 @@ use mathlib.Core.Logic.{_≢_}
 use mathlib.Core.Bool.{Bool, true, false, _&&_}
 use mathlib.Core.Option.{Option}
 use mathlib.Core.Option as Option
-use mathlib.Core.List.{List, [], _∷_}
+use mathlib.Core.List.{List, [], _∷_, _++_}
 use Prim.Native.Nat.{ℕ, zero, suc, _+_, _<_, _≤_}
 use native.Mathlib.Omega.{arith}
 use native.Mathlib.Nat.{le-of-eq}
-use lib.ListN.{length}
+use lib.ListN.{length, length-append, List·getD-append}
 use Rattle.words.specs.Words.{nodeKind, nodePayload, nodeHead}
 use Rattle.definition.specs.declared.Unfinished.{Unfinished}
-use Rattle.definition.specs.Prog.{headWord, endWord, firstWord}
-use Rattle.definition.specs.Nodes.{closeNodeAt, closeNode, updateKind, pushChild}
+use Rattle.definition.specs.Prog.{Then, headWord, endWord, firstWord}
+use Rattle.definition.specs.Nodes.{allocNodeFrom, closeNodeAt, closeNode, updateKind, pushChild}
 use Rattle.definition.specs.Expressions.{pushClosing}
-use Rattle.definition.specs.Abstract.{Node, nodeAt, written, adopted, wordIn, World, Fate, withStore, withLink}
+use Rattle.definition.specs.Abstract.{Node, noNode, newNode, nodeAt, written, adopted, wordIn, World, Fate, withStore, withLink}
 use Rattle.definition.specs.Encodes.{written-length, adopted-length}
 use Rattle.chart.specs.Row.{RowToken}
 use Rattle.chart.specs.Tree.{flags, Tree, Trees, node, none, _▸_, _⊕_}
 use Rattle.chart.specs.Parser.{Outcome}
-use Rattle.tree.specs.Grown.{size, sizes, ⊕-assoc, Built, Growing, Waiting, ahead, closed, waits, waits-on, adopt, rekinded, wait-rekinded, ended, wait-ended}
+use Rattle.tree.specs.Grown.{size, sizes, ⊕-assoc, Built, Growing, Waiting, opened, ahead, closed, waits, waits-on, adopt, rekinded, wait-rekinded, ended, wait-ended}
 use Rattle.agreement.specs.Run.{run}
 use Rattle.agreement.specs.Sim.{Sim, Setting, runs, Fits}
 use Rattle.agreement.specs.Steps.{isFlagged, flagged, Open, Done, store-fit, both, push-rule, close-branch}
@@ -77,3 +77,37 @@ module _ (s : Setting) where
         let st = written (x .node) headWord new (v .store) in
         let long : length (adopted (x .node) c st) ≡ length (v .store) = adopted-length (x .node) c st ∙ written-length (x .node) headWord new (v .store) in
         g (record { node = x .node; last = c }) _ g₂ (record { ahead = f .ahead; room = f .room; few = f .few; born = rw long (f .born); sound = both _ _ (f .sound) may })
+
+    -- A node is opened around one that was read before.
+    pub around-rule : (w u : World) (k : Unfinished → World → Fate B) (start kind payload c : ℕ) {t : Tree} {xs : List RowToken} {o : Outcome} → 0 < length (w .store) → Done s w u c t → Fits s u xs
+        → ((y : Unfinished) (z : World) → Open s w z y (nodeHead kind payload) 0 (t ▸ none) → Fits s z xs → Sim P (k y z) o)
+        → Sim P (runs s (Then (allocNodeFrom start kind payload) (λ x. pushChild x c)) u k) o
+    unfolding run allocNodeFrom pushChild _⊕_
+    around-rule w u k start kind payload c {t} {xs} born b f h =
+        let new = newNode start kind payload in
+        let now = u .store ++ (new ∷ []) in
+        let n = length (u .store) in
+        let l : length now ≡ n + 1 = length-append (u .store) (new ∷ []) in
+        let g = opened (s .text) (s .tokens) {st = w .store} {u = size t + 0} (u .store) (u .values) new (omega (arith, b .size-is)) (b .old) (b .says) refl refl in
+        let x = waits (s .text) (s .tokens) {base = w .store} {now = now} {most = u .values} {p = n} (omega arith) b (omega (arith, l)) (λ i q. List·getD-append (u .store) (new ∷ []) noNode i q) (λ k p v d. d) (omega arith) in
+        let (p, m) = adopt (s .text) (s .tokens) {u = 0} g x (omega (arith, born, b .low)) in
+        h (record { node = n; last = c }) (withLink n 0 c (withStore now u)) p
+        (record { ahead = f .ahead; room = f .room; few = f .few; born = rw (adopted-length n c now) (omega (arith, l)); sound = rw (f .sound, m) })
+
+    -- Around two.
+    pub around-two : (w u v : World) (k : Unfinished → World → Fate B) (start kind payload c d : ℕ) {t t₁ : Tree} {xs : List RowToken} {o : Outcome} → 0 < length (w .store) → Done s w u c t → Done s u v d t₁ → Fits s v xs
+        → ((y : Unfinished) (z : World) → Open s w z y (nodeHead kind payload) 0 (t ▸ (t₁ ▸ none)) → Fits s z xs → Sim P (k y z) o)
+        → Sim P (runs s (Then (allocNodeFrom start kind payload) (λ x. Then (pushChild x c) (λ y. pushChild y d))) v k) o
+    unfolding run allocNodeFrom pushChild _⊕_
+    around-two w u v k start kind payload c d {t} {t₁} {xs} born b b₁ f h =
+        let new = newNode start kind payload in
+        let now = v .store ++ (new ∷ []) in
+        let n = length (v .store) in
+        let l : length now ≡ n + 1 = length-append (v .store) (new ∷ []) in
+        let g = opened (s .text) (s .tokens) {st = w .store} {u = size t + (size t₁ + 0)} (v .store) (v .values) new (omega (arith, b .size-is, b₁ .size-is)) (λ i m. b₁ .old i (omega (arith, b .size-is)) ∙ b .old i m) (λ i p y z. b₁ .says i p y (b .says i p y z)) refl refl in
+        let x = waits (s .text) (s .tokens) {base = w .store} {now = now} {most = v .values} {p = n} (omega arith) b (omega (arith, l, b₁ .size-is)) (λ i q. List·getD-append (v .store) (new ∷ []) noNode i (omega (arith, b₁ .size-is)) ∙ b₁ .old i q) (b₁ .says) (λ i p q. omega (arith, b₁ .size-is)) in
+        let x₁ = waits (s .text) (s .tokens) {base = w .store} {now = now} {most = v .values} {p = n} (omega (arith, b .size-is)) b₁ (omega (arith, l)) (λ i q. List·getD-append (v .store) (new ∷ []) noNode i q) (λ k p v d. d) (λ i p q. omega arith) in
+        let (p, m) = adopt (s .text) (s .tokens) {u = size t₁ + 0} g x (omega (arith, born, b .low)) in
+        let (p₁, m₁) = adopt (s .text) (s .tokens) {u = 0} p (waits-on (s .text) (s .tokens) c (omega (arith, b .high, b₁ .low)) x₁) (omega (arith, b .high, b₁ .low)) in
+        h (record { node = n; last = d }) (withLink n c d (withLink n 0 c (withStore now v))) p₁
+        (record { ahead = f .ahead; room = f .room; few = f .few; born = rw (adopted-length n d (adopted n c now), adopted-length n c now) (omega (arith, l)); sound = rw (f .sound, m, m₁) })

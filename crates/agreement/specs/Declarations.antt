@@ -29,6 +29,7 @@ use Rattle.chart.specs.Parser as Chart
 use Rattle.agreement.specs.Run.{run, turns}
 use Rattle.agreement.specs.Sim.{Sim, gives, fails, sinks, Made, made, mapped, call, Setting, runs, lexemeOf, cost, Ahead, Fits, Taken, peek-rule, pass-rule, eat-rule, check-rule, eof-rule, eof-either, expect-rule, expect-hit, expect-miss, unexpected-rule}
 use Rattle.agreement.specs.Steps.{isFlagged, flagged, Open, Done, Agrees, alloc-rule, alloc-here, push-rule, close-branch, update-rule, expr-rule, block-rule}
+use Rattle.agreement.specs.Closing.{around-rule}
 use Rattle.agreement.specs.Leaves.{expect-ident-rule}
 use Rattle.tree.specs.Stored.{isName}
 use Rattle.tree.specs.Grown.{size, ⊕-assoc, ⊕-none, Built, opened, closed, waits, adopt, push, ended}
@@ -290,22 +291,6 @@ module _ (s : Setting) where
     -- A token is looked at for trivia's sake alone.
     peek-over : (w : World) (k : World → Fate B) {xs : List RowToken} {o : Outcome} → Fits s w xs → ((i : ℕ) → Sim P (k (moveTo i (w .row) w)) o) → Sim P (runs s peek w (λ _ u. k u)) o
     peek-over w k f h = peek-rule s w (λ _ u. k u) f (λ i e. h i) (λ j kind ys e n. h j)
-
-    -- A node is opened around one that was read before.
-    around-rule : (w u : World) (k : Unfinished → World → Fate B) (start kind payload c : ℕ) {t : Tree} {xs : List RowToken} {o : Outcome} → 0 < length (w .store) → Done s w u c t → Fits s u xs
-        → ((y : Unfinished) (z : World) → Open s w z y (nodeHead kind payload) 0 (t ▸ none) → Fits s z xs → Sim P (k y z) o)
-        → Sim P (runs s (Then (allocNodeFrom start kind payload) (λ x. pushChild x c)) u k) o
-    unfolding run allocNodeFrom pushChild _⊕_
-    around-rule w u k start kind payload c {t} {xs} born b f h =
-        let new = newNode start kind payload in
-        let now = u .store ++ (new ∷ []) in
-        let n = length (u .store) in
-        let l : length now ≡ n + 1 = length-append (u .store) (new ∷ []) in
-        let g = opened (s .text) (s .tokens) {st = w .store} {u = size t + 0} (u .store) (u .values) new (omega (arith, b .size-is)) (b .old) (b .says) refl refl in
-        let x = waits (s .text) (s .tokens) {base = w .store} {now = now} {most = u .values} {p = n} (omega arith) b (omega (arith, l)) (λ i q. List·getD-append (u .store) (new ∷ []) noNode i q) (λ k p v d. d) (omega arith) in
-        let (p, m) = adopt (s .text) (s .tokens) {u = 0} g x (omega (arith, born, b .low)) in
-        h (record { node = n; last = c }) (withLink n 0 c (withStore now u)) p
-        (record { ahead = f .ahead; room = f .room; few = f .few; born = rw (adopted-length n c now) (omega (arith, l)); sound = rw (f .sound, m) })
 
   -- A node that stands for what was read.
   abbrev pub Whole : World → List RowToken → ℕ → World → Trees → List RowToken → Type 0
