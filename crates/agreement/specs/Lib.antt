@@ -11,5 +11,6 @@ pub mod Structs
 pub mod Numbers
 pub mod Strings
 pub mod Operands
+pub mod Expressions
 pub mod Statements
 pub mod Declarations
