@@ -30,6 +30,11 @@ use Rattle.tree.specs.Stored.{isName}
 use Rattle.agreement.specs.Run.{run, turns}
 use Rattle.agreement.specs.Sim.{Sim, gives, fails, sinks, Setting, runs, lexemeOf, Fits, peek-rule, pass-rule, eat-rule, check-rule, check-is, unexpected-rule}
 use Rattle.agreement.specs.Steps.{isFlagged, rootKind, isOdd, Ranked, Open, Done, Found, found, not-found, Agrees, alloc-rule, alloc-here, push-rule, close-branch, operand-rule}
+use Rattle.agreement.specs.Leaves.{ident-rule}
+use Rattle.agreement.specs.Lists.{list-rule, list-expect, expressions}
+use Rattle.agreement.specs.Closing.{around-rule, around-two}
+use Rattle.agreement.specs.Structs.{fields}
+use Rattle.agreement.specs.Operands.{operand-read}
 
 -- ---- operators
 
@@ -88,3 +93,53 @@ prefixed = record { below = refl; same = λ i. go i (leb 9 i) refl }
     go : (i : ℕ) (b : Bool) → leb 9 i ≡ b → ltb (2 * i + 1) 19 ≡ not b
     go i true q = le-ltb (2 * i + 1) 19 (omega (arith, leb-true 9 i q))
     go i false q = lt-ltb (2 * i + 1) 19 (omega (arith, leb-false 9 i q))
+
+module _ (s : Setting) (a : Agrees s) where
+  -- ---- what goes on from an expression
+
+  module _ {B : Type 0} {P : B → World → Outcome → Type 0} where
+    -- After `.`.
+    member-rule : (w u : World) (k : ℕ → World → Fate B) (c : Tree → List RowToken → Outcome) (start expr : ℕ) {t : Tree} {xs : List RowToken} → 0 < length (w .store) → Done s w u expr t → Fits s u xs
+        → ((n : ℕ) (v : World) (ts : Trees) (ys : List RowToken) → Done s w v n (node Node.MemberExpr (flags 0) ts) → Fits s v ys → length ys < length xs → Sim P (k n v) (c (node Node.MemberExpr (flags 0) ts) ys))
+        → Sim P (runs s (memberExpr start expr) u k) (on Token.Identifier xs (λ v ys. c (node Node.MemberExpr (flags 0) (t ▸ named v)) ys) failed)
+    unfolding run memberExpr accessName _⊕_ isFlagged isName
+    member-rule w u k c start expr born d f g =
+        around-rule s w u _ start Node.MemberExpr 0 expr born d f (λ x z o f₁.
+        ident-rule s a z _ _ f₁
+        (λ n v j ys d₁ f₂ l. push-rule s w z v _ x n o d₁ f₂ (λ y v₁ o₁ f₃. close-branch s w v₁ k y o₁ refl f₃ (λ m v₂ d₂ f₄. g m v₂ _ ys d₂ f₄ l)))
+        (λ _ i. unexpected-rule s (moveTo i (z .row) z) _ f₁))
+
+    -- At `(`.
+    call-rule : (w u : World) (k : ℕ → World → Fate B) (c : Tree → List RowToken → Outcome) (start expr : ℕ) {t : Tree} {v : Lexeme} {xs ys : List RowToken} → 0 < length (w .store) → Done s w u expr t → Fits s u xs → xs ≡ token Token.LeftRound v ∷ ys
+        → ((n : ℕ) (z : World) (ts : Trees) (zs : List RowToken) → Done s w z n (node Node.CallExpr (flags 0) ts) → Fits s z zs → length zs < length xs → Sim P (k n z) (c (node Node.CallExpr (flags 0) ts) zs))
+        → Sim P (runs s (callExpr start expr) u k) (bind (readList Token.RightRound (s .rows) (suc (length ys)) ys) (λ us zs. c (node Node.CallExpr (flags 0) (t ▸ us)) zs))
+    unfolding run callExpr _⊕_ isFlagged isName
+    call-rule w u k c start expr {t} born d f q g =
+        around-rule s w u _ start Node.CallExpr 0 expr born d f (λ x z o f₁.
+        list-rule s a Token.RightRound refl exprElement (readList Token.RightRound (s .rows)) (expressions s a Token.RightRound) w z _ (λ us zs. c (node Node.CallExpr (flags 0) (t ▸ us)) zs) Token.LeftRound x o f₁ q (λ y v us zs o₁ f₂ l.
+        close-branch s w v k y o₁ refl f₂ (λ n v₁ d₁ f₃. g n v₁ _ zs d₁ f₃ l)))
+
+    -- At `{`.
+    literal-rule : (w u : World) (k : ℕ → World → Fate B) (c : Tree → List RowToken → Outcome) (start expr : ℕ) {t : Tree} {xs : List RowToken} → 0 < length (w .store) → Done s w u expr t → Fits s u xs
+        → ((n : ℕ) (z : World) (ts : Trees) (zs : List RowToken) → Done s w z n (node Node.StructLit (flags 0) ts) → Fits s z zs → length zs < length xs → Sim P (k n z) (c (node Node.StructLit (flags 0) ts) zs))
+        → Sim P (runs s (structLit start expr) u k) (on Token.LeftCurly xs (λ _ ys. bind (readFields (s .rows) (suc (length ys)) ys) (λ us zs. c (node Node.StructLit (flags 0) (t ▸ us)) zs)) failed)
+    unfolding run structLit _⊕_ isFlagged isName
+    literal-rule w u k c start expr {t} born d f g =
+        around-rule s w u _ start Node.StructLit 0 expr born d f (λ x z o f₁.
+        list-expect s a Token.RightCurly refl fieldAssign (readFields (s .rows)) (fields s a) w z _ (λ us zs. c (node Node.StructLit (flags 0) (t ▸ us)) zs) Token.LeftCurly x refl o f₁ (λ y v us zs o₁ f₂ l.
+        close-branch s w v k y o₁ refl f₂ (λ n v₁ d₁ f₃. g n v₁ _ zs d₁ f₃ l)))
+
+    -- At a binary operator.
+    binary-rule : (w u : World) (k : ℕ → World → Fate B) (c : Tree → List RowToken → Outcome) (mode : Mode) (start expr : ℕ) (b : Binary) (j kind : ℕ) {t : Tree} {v : Lexeme} {xs ys : List RowToken} → 0 < length (w .store) → Done s w u expr t → Fits s u xs → xs ≡ token kind v ∷ ys
+        → Ranked (b .right) (suc j) → isFlagged Node.BinaryExpr (b .op) ≡ true
+        → ((n : ℕ) (z : World) (ts : Trees) (zs : List RowToken) → Done s w z n (node Node.BinaryExpr (flags (b .op)) ts) → Fits s z zs → length zs < length xs → Sim P (k n z) (c (node Node.BinaryExpr (flags (b .op)) ts) zs))
+        → Sim P (runs s (binaryExpr mode start expr b) u k) (bind (s .rows .expr (allowsStructLiteral mode) (suc j) ys) (λ r zs. c (node Node.BinaryExpr (flags (b .op)) (t ▸ (node Node.Operator (flags 0) none ▸ r))) zs))
+    unfolding run binaryExpr _⊕_ isFlagged isName
+    binary-rule w u k c mode start expr b j kind {t} {xs = xs} {ys = ys} born d f e rank flat g =
+        alloc-here s u _ Node.Operator 0 f (λ x u₁ o f₁.
+        pass-rule s u₁ _ f₁ e (λ i row _ t₁.
+        close-branch s u (moveTo (suc i) row u₁) _ x o refl (t₁ .fit) (λ n u₂ d₁ f₂.
+        around-two s w u u₂ _ start Node.BinaryExpr (b .op) expr n born d d₁ f₂ (λ y z o₁ f₃.
+        operand-rule s a z _ _ mode (b .right) (suc j) rank f₃ (λ m z₁ r zs d₂ f₄ l.
+        push-rule s w z z₁ _ y m o₁ d₂ f₄ (λ y₁ z₂ o₂ f₅.
+        close-branch s w z₂ k y₁ o₂ flat f₅ (λ n₁ z₃ d₃ f₆. g n₁ z₃ _ zs d₃ f₆ (omega (arith, t₁ .shorter)))))))))
