@@ -143,3 +143,90 @@ module _ (s : Setting) (a : Agrees s) where
         operand-rule s a z _ _ mode (b .right) (suc j) rank f₃ (λ m z₁ r zs d₂ f₄ l.
         push-rule s w z z₁ _ y m o₁ d₂ f₄ (λ y₁ z₂ o₂ f₅.
         close-branch s w z₂ k y₁ o₂ flat f₅ (λ n₁ z₃ d₃ f₆. g n₁ z₃ _ zs d₃ f₆ (omega (arith, t₁ .shorter)))))))))
+
+  -- ---- the loop
+
+  module _ (mode : Mode) (min level start : ℕ) (rank : Ranked min level) where
+    -- Turns from an expression on.
+    abbrev continued : ℕ → ℕ → World → Fate (Option ℕ)
+    continued n expr u = turns (λ y v j. runs s (exprTurn mode min start y) v j) n expr u (λ y v. ok (Option.some y) v)
+
+    abbrev OnTurns : ℕ → ℕ → Type 0
+    OnTurns n m =
+        (w u : World) (expr : ℕ) (t : Tree) (xs₀ xs : List RowToken) → length xs < n → length xs < m → 0 < length (w .store) → Done s w u expr t → Fits s u xs → length xs < length xs₀ → (begins Token.Comptime xs₀ ≡ false → isOdd (rootKind t) ≡ false)
+        → Sim (Found s w xs₀) (continued n expr u) (readOn (s .rows) m (allowsStructLiteral mode) level (t ▸ none) xs)
+
+    -- What a turn is followed by, where n are left.
+    abbrev next : ℕ → ℕ → Option ℕ → World → Fate (Option ℕ)
+    next n expr x v = runs s {A = Turn ℕ} (elim x [ Option.some y ↦ Give (again y) | Option.none ↦ Give (stop expr) ]) v (λ t z. elim t [ again y ↦ continued n y z | stop y ↦ ok (Option.some y) z ])
+
+    module _ (n m : ℕ) (ih : OnTurns n m) (w u : World) (expr : ℕ) (t : Tree) (xs₀ xs : List RowToken) (l : length xs < suc n) (l₁ : length xs < suc m) (born : 0 < length (w .store)) (d : Done s w u expr t) (f : Fits s u xs) (l₂ : length xs < length xs₀)
+        (odd : begins Token.Comptime xs₀ ≡ false → isOdd (rootKind t) ≡ false) where
+      -- The rest of the row, where a tree was made.
+      on-with : (v : World) (n₁ : ℕ) (t₁ : Tree) (zs : List RowToken) → Done s w v n₁ t₁ → Fits s v zs → length zs < length xs → isOdd (rootKind t₁) ≡ false → Sim (Found s w xs₀) (continued n n₁ v) (readOn (s .rows) m (allowsStructLiteral mode) level (t₁ ▸ none) zs)
+      on-with v n₁ t₁ zs d₁ f₁ l₃ e = ih w v n₁ t₁ xs₀ zs (omega arith) (omega arith) born d₁ f₁ (omega arith) (λ _. e)
+
+      -- A binary operator, or none.
+      operator-next : (i : ℕ) → Sim (Found s w xs₀) (runs s (binaryStep mode min start expr) (moveTo i (u .row) u) (next n expr))
+          (onOp level xs (λ o j ys. bind (s .rows .expr (allowsStructLiteral mode) (suc j) ys) (λ r zs. readOn (s .rows) m (allowsStructLiteral mode) level (binaryTree o (t ▸ none) r) zs)) (Chart.ok (t ▸ none) xs))
+      unfolding run binaryStep checkBinaryOp onOp onLevel if binaryTree branch _⊕_ isOdd rootKind
+      operator-next i =
+          peek-rule s (moveTo i (u .row) u) (λ kind v. step (binaryOf binaries kind) v) f
+          (λ i₁ e. rw e (unfold binaryOf binaries in (gives (found d (rw e at f) (rw e at l₂) odd))))
+          (λ j kind ys e _. rw e (go j kind ys e (operators kind)))
+        where
+          step : Option Binary → World → Fate (Option ℕ)
+          step x v = runs s {A = Option ℕ} (elim x [ Option.none ↦ Give Option.none | Option.some b ↦ Branch (ltb (b .left) min) (Give Option.none) (Then (binaryExpr mode start expr b) (λ y. Give (Option.some y))) ]) v (next n expr)
+
+          stays : (j : ℕ) → Sim (Found s w xs₀) (ok (Option.some expr) (moveTo j (u .row) u)) (Chart.ok (t ▸ none) xs)
+          stays j = gives (found d f l₂ odd)
+
+          go : (j kind : ℕ) (ys : List RowToken) → xs ≡ token kind (lexemeOf s j) ∷ ys → {x : Option Binary} {r : Role} → Alike x r
+              → Sim (Found s w xs₀) (step x (moveTo j (u .row) u)) (onLevel r level (λ o q. bind (s .rows .expr (allowsStructLiteral mode) (suc q) ys) (λ r zs. readOn (s .rows) m (allowsStructLiteral mode) level (binaryTree o (t ▸ none) r) zs)) (Chart.ok (t ▸ none) (token kind (lexemeOf s j) ∷ ys)))
+          go j kind ys e neither = rw e at (stays j)
+          go j kind ys e (both {b} {j = q} {op} p₁ p₂ p₃ p₄ p₅) = choose (leb level q) (ltb (b .left) min) (rw p₁ (rank .same q))
+            where
+              choose : (c e₁ : Bool) → e₁ ≡ not c
+                  → Sim (Found s w xs₀) (runs s {A = Option ℕ} (Branch e₁ (Give Option.none) (Then (binaryExpr mode start expr b) (λ y. Give (Option.some y)))) (moveTo j (u .row) u) (next n expr))
+                  (if c (bind (s .rows .expr (allowsStructLiteral mode) (suc q) ys) (λ r zs. readOn (s .rows) m (allowsStructLiteral mode) level (binaryTree op (t ▸ none) r) zs)) (Chart.ok (t ▸ none) (token kind (lexemeOf s j) ∷ ys)))
+              choose true true z = absurd (true≢false z)
+              choose true false z =
+                  rw (← p₄) (binary-rule w (moveTo j (u .row) u) _ (λ t₁ zs. readOn (s .rows) m (allowsStructLiteral mode) level (t₁ ▸ none) zs) mode start expr b q kind born d f e (tighter (b .right) q p₂ p₃) p₅ (λ n₁ v ts zs d₁ f₁ l₃. on-with v n₁ _ zs d₁ f₁ l₃ refl))
+              choose false true z = rw e at (stays j)
+              choose false false z = absurd (false≢true z)
+
+      -- A struct literal where it is allowed, or an operator.
+      literal-next : (i : ℕ) → Sim (Found s w xs₀) (runs s {A = Option ℕ} (Then (Branch (allowsStructLiteral mode && ltb min 21) (checks Token.LeftCurly (structLit start expr)) (Give Option.none)) (λ x. elim x [ Option.some y ↦ Give (Option.some y) | Option.none ↦ binaryStep mode min start expr ])) (moveTo i (u .row) u) (next n expr))
+          (if (allowsStructLiteral mode && begins Token.LeftCurly xs) (on Token.LeftCurly xs (λ _ ys. bind (readFields (s .rows) (suc (length ys)) ys) (λ us zs. readOn (s .rows) m (allowsStructLiteral mode) level (branch Node.StructLit 0 ((t ▸ none) ⊕ us)) zs)) failed)
+          (onOp level xs (λ o j ys. bind (s .rows .expr (allowsStructLiteral mode) (suc j) ys) (λ r zs. readOn (s .rows) m (allowsStructLiteral mode) level (binaryTree o (t ▸ none) r) zs)) (Chart.ok (t ▸ none) xs)))
+      unfolding run checks if branch _⊕_ isOdd rootKind
+      literal-next i = go (allowsStructLiteral mode) (ltb min 21) (begins Token.LeftCurly xs) (rank .below) refl
+        where
+          rest : Bool → Bool → Outcome
+          rest c b =
+              if (c && b) (on Token.LeftCurly xs (λ _ ys. bind (readFields (s .rows) (suc (length ys)) ys) (λ us zs. readOn (s .rows) m (allowsStructLiteral mode) level (branch Node.StructLit 0 ((t ▸ none) ⊕ us)) zs)) failed)
+              (onOp level xs (λ o j ys. bind (s .rows .expr (allowsStructLiteral mode) (suc j) ys) (λ r zs. readOn (s .rows) m (allowsStructLiteral mode) level (binaryTree o (t ▸ none) r) zs)) (Chart.ok (t ▸ none) xs))
+
+          go : (c e b : Bool) → e ≡ true → begins Token.LeftCurly xs ≡ b
+              → Sim (Found s w xs₀) (runs s {A = Option ℕ} (Then (Branch (c && e) (checks Token.LeftCurly (structLit start expr)) (Give Option.none)) (λ x. elim x [ Option.some y ↦ Give (Option.some y) | Option.none ↦ binaryStep mode min start expr ])) (moveTo i (u .row) u) (next n expr)) (rest c b)
+          go c false b z q = absurd (false≢true z)
+          go false true b z q = operator-next i
+          go true true true z q =
+              check-is s (moveTo i (u .row) u) _ Token.LeftCurly refl f (λ i₁. rw q (
+              literal-rule w (moveTo i₁ (u .row) u) _ (λ t₁ zs. readOn (s .rows) m (allowsStructLiteral mode) level (t₁ ▸ none) zs) start expr born d f (λ n₁ v ts zs d₁ f₁ l₃. on-with v n₁ _ zs d₁ f₁ l₃ refl)))
+          go true true false z q = check-is s (moveTo i (u .row) u) _ Token.LeftCurly refl f (λ i₁. rw q (operator-next i₁))
+
+    on-turns : (n m : ℕ) → OnTurns n m
+    unfolding run turns exprTurn eats checks readOn branch _⊕_ isOdd rootKind
+    on-turns zero m w u expr t xs₀ xs l l₁ born d f l₂ odd = absurd (omega arith)
+    on-turns (suc n) zero w u expr t xs₀ xs l l₁ born d f l₂ odd = absurd (omega arith)
+    on-turns (suc n) (suc m) w u expr t xs₀ xs l l₁ born d f l₂ odd =
+        rw (rank .below)
+        (eat-rule s u _ _ refl f
+        (λ j row ys q. member-rule w (moveTo (suc j) row u) _ (λ t₁ zs. readOn (s .rows) m (allowsStructLiteral mode) level (t₁ ▸ none) zs) start expr born d (q .fit) (λ n₁ v ts zs d₁ f₁ l₃.
+        on-with n m (on-turns n m) w u expr t xs₀ xs l l₁ born d f l₂ odd v n₁ _ zs d₁ f₁ (omega (arith, q .shorter)) refl))
+        (λ _ i. rw (rank .below)
+        (check-rule s (moveTo i (u .row) u) _ _ refl f
+        (λ j ys q. call-rule w (moveTo j (u .row) u) _ (λ t₁ zs. readOn (s .rows) m (allowsStructLiteral mode) level (t₁ ▸ none) zs) start expr born d f q (λ n₁ v ts zs d₁ f₁ l₃.
+        on-with n m (on-turns n m) w u expr t xs₀ xs l l₁ born d f l₂ odd v n₁ _ zs d₁ f₁ l₃ refl))
+        (λ _ i₁. literal-next n m (on-turns n m) w u expr t xs₀ xs l l₁ born d f l₂ odd i₁))))

@@ -97,21 +97,21 @@ module _ (s : Setting) (a : Agrees s) where
       ident-rule s a (moveTo i₅ (w .row) w) _ _ f (λ n u j ys d f₁ l. gives (found d f₁ l (λ _. refl))) (λ _ i₆.
       builtin-rule (moveTo i₆ (w .row) w) _ _ f (λ n u j ys d f₁ l. gives (found d f₁ l (λ _. refl))) (λ i₇.
       eat-rule s (moveTo i₇ (w .row) w) _ _ refl f (λ j row ys t. round-rule (moveTo (suc j) row w) _ _ (t .fit)
-          (λ n u ts zs d f₁ l. gives (found d f₁ (omega (arith, t .shorter)) (λ _. refl))) (λ n u ts zs d f₁ l. gives (found d f₁ (omega (arith, t .shorter)) (λ _. refl)))) (λ _ i₈.
+      (λ n u ts zs d f₁ l. gives (found d f₁ (omega (arith, t .shorter)) (λ _. refl))) (λ n u ts zs d f₁ l. gives (found d f₁ (omega (arith, t .shorter)) (λ _. refl)))) (λ _ i₈.
       eat-rule s (moveTo i₈ (w .row) w) _ _ refl f (λ j row ys t. block-rule s a (moveTo (suc j) row w) _ _ _ Node.ComptimeBlock refl (t .fit)
-          (λ n u ts zs d f₁ l. gives (found d f₁ (omega (arith, t .shorter)) (λ q. absurd (true≢false (rw (t .first) at q)))))) (λ _ i₉.
+      (λ n u ts zs d f₁ l. gives (found d f₁ (omega (arith, t .shorter)) (λ q. absurd (true≢false (rw (t .first) at q)))))) (λ _ i₉.
       eat-rule s (moveTo i₉ (w .row) w) _ _ refl f (λ j row ys t. expect-rule s (moveTo (suc j) row w) _ _ refl (t .fit) (λ j₁ row₁ zs t₁. function-rule s a (moveTo (suc j₁) row₁ w) _ _ _ true (t₁ .fit)
-          (λ n u ts vs d f₁ l. gives (found d f₁ (omega (arith, t .shorter, t₁ .shorter)) (λ _. refl))))) (λ _ i₁₀.
+      (λ n u ts vs d f₁ l. gives (found d f₁ (omega (arith, t .shorter, t₁ .shorter)) (λ _. refl))))) (λ _ i₁₀.
       eat-rule s (moveTo i₁₀ (w .row) w) _ _ refl f (λ j row ys t. function-rule s a (moveTo (suc j) row w) _ _ _ false (t .fit)
-          (λ n u ts vs d f₁ l. gives (found d f₁ (omega (arith, t .shorter)) (λ _. refl)))) (λ _ i₁₁.
+      (λ n u ts vs d f₁ l. gives (found d f₁ (omega (arith, t .shorter)) (λ _. refl)))) (λ _ i₁₁.
       eat-rule s (moveTo i₁₁ (w .row) w) _ _ refl f (λ j row ys t. struct-rule s a (moveTo (suc j) row w) _ (λ ts vs. Chart.ok (branch Node.StructDef 0 ts) vs) _ (t .fit)
-          (λ n u ts vs d f₁ l. gives (found d f₁ (omega (arith, t .shorter)) (λ _. refl)))) (λ _ i₁₂.
+      (λ n u ts vs d f₁ l. gives (found d f₁ (omega (arith, t .shorter)) (λ _. refl)))) (λ _ i₁₂.
       eat-rule s (moveTo i₁₂ (w .row) w) _ _ refl f (λ j row ys t. tuple-type-rule s a (moveTo (suc j) row w) _ _ _ (t .fit)
-          (λ n u ts vs d f₁ l. gives (found d f₁ (omega (arith, t .shorter)) (λ _. refl)))) (λ _ i₁₃.
+      (λ n u ts vs d f₁ l. gives (found d f₁ (omega (arith, t .shorter)) (λ _. refl)))) (λ _ i₁₃.
       check-rule s (moveTo i₁₃ (w .row) w) _ _ refl f (λ j ys q. here-rule s a (moveTo j (w .row) w) _ _ (rw q at f)
-          (λ n u ts vs d f₁ l. gives (found d f₁ (rw q l) (λ _. refl)))) (λ _ i₁₄.
+      (λ n u ts vs d f₁ l. gives (found d f₁ (rw q l) (λ _. refl)))) (λ _ i₁₄.
       eat-rule s (moveTo i₁₄ (w .row) w) _ _ refl f (λ j row ys t. if-rule s a (moveTo (suc j) row w) _ (λ ts vs. Chart.ok (branch Node.If 0 ts) vs) _ (t .fit)
-          (λ n u ts vs d f₁ l. gives (found d f₁ (omega (arith, t .shorter)) (λ _. refl)))) (λ _ i₁₅.
+      (λ n u ts vs d f₁ l. gives (found d f₁ (omega (arith, t .shorter)) (λ _. refl)))) (λ _ i₁₅.
       eat-rule s (moveTo i₁₅ (w .row) w) _ _ refl f (λ j row ys t. match-rule s a (moveTo (suc j) row w) _ (λ ts vs. Chart.ok (branch Node.Match 0 ts) vs) _ (t .fit)
-          (λ n u ts vs d f₁ l. gives (found d f₁ (omega (arith, t .shorter)) (λ _. refl)))) (λ _ i₁₆.
+      (λ n u ts vs d f₁ l. gives (found d f₁ (omega (arith, t .shorter)) (λ _. refl)))) (λ _ i₁₆.
       gives (not-found i₁₆)))))))))))))))))
