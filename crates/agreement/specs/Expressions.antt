@@ -17,18 +17,19 @@ use Rattle.words.specs.Words.{nodeHead}
 use Rattle.definition.specs.declared.Mode.{Mode}
 use Rattle.definition.specs.declared.Mode.the-variants.{AllowAll, NoPostFixCurlyBrace}
 use Rattle.definition.specs.declared.Unfinished.{Unfinished}
-use Rattle.definition.specs.Prog.{Turn, again, stop, Prog, Then, Give, Branch, Loop}
+use Rattle.definition.specs.Prog.{Turn, again, stop, Prog, Then, Give, Branch, Loop, pass}
+use Rattle.definition.specs.Nodes.{skipTriviaStart}
 use Rattle.definition.specs.Expressions.{Binary, binary, binaries, binaryOf, unaryOf, allowsStructLiteral, memberExpr, callExpr, structLit, fieldAssign, exprElement, binaryExpr, binaryStep, exprTurn, unaryExpr, eatUnary, checkBinaryOp, tryParseExprMinBp, tryParseStandaloneExpr, accessName, eats, checks}
 use Rattle.definition.specs.Abstract.{World, Fate, ok, moveTo}
 use Rattle.chart.specs.Row.{Lexeme, RowToken, token, begins}
 use Rattle.chart.specs.Tree.{flags, Tree, Trees, node, none, _▸_, _⊕_, branch, named}
 use Rattle.chart.specs.Chart.{Role, operator, levels, within, lookup, operatorOf, notBinary, prefixLevel, binaryTree}
 use Rattle.chart.specs.Chart as Grammar
-use Rattle.chart.specs.Parser.{Outcome, if, on, bind, try, onLevel, onOp, nothing, failed, readList, readFields, readOn, readPrefix, readLevel}
+use Rattle.chart.specs.Parser.{Outcome, if, on, bind, try, onLevel, onOp, nothing, failed, readList, readFields, readOn, readOperand, readPrefix, readLevel}
 use Rattle.chart.specs.Parser as Chart
 use Rattle.tree.specs.Stored.{isName}
 use Rattle.agreement.specs.Run.{run, turns}
-use Rattle.agreement.specs.Sim.{Sim, gives, fails, sinks, Setting, runs, lexemeOf, Fits, peek-rule, pass-rule, eat-rule, check-rule, check-is, unexpected-rule}
+use Rattle.agreement.specs.Sim.{Sim, gives, call-try, Setting, runs, lexemeOf, Fits, peek-rule, pass-rule, eat-rule, check-rule, check-is, unexpected-rule}
 use Rattle.agreement.specs.Steps.{isFlagged, rootKind, isOdd, Ranked, Open, Done, Found, found, not-found, Agrees, alloc-rule, alloc-here, push-rule, close-branch, operand-rule}
 use Rattle.agreement.specs.Leaves.{ident-rule}
 use Rattle.agreement.specs.Lists.{list-rule, list-expect, expressions}
@@ -230,3 +231,61 @@ module _ (s : Setting) (a : Agrees s) where
         (λ j ys q. call-rule w (moveTo j (u .row) u) _ (λ t₁ zs. readOn (s .rows) m (allowsStructLiteral mode) level (t₁ ▸ none) zs) start expr born d f q (λ n₁ v ts zs d₁ f₁ l₃.
         on-with n m (on-turns n m) w u expr t xs₀ xs l l₁ born d f l₂ odd v n₁ _ zs d₁ f₁ l₃ refl))
         (λ _ i₁. literal-next n m (on-turns n m) w u expr t xs₀ xs l l₁ born d f l₂ odd i₁))))
+
+    -- ---- the whole expression
+
+    -- After its first operand.
+    abbrev afterwards : Option ℕ → World → Fate (Option ℕ)
+    afterwards x v = runs s {A = Option ℕ} (elim x [ Option.none ↦ Give Option.none | Option.some y ↦ Then (Loop y (exprTurn mode min start)) (λ n. Give (Option.some n)) ]) v ok
+
+    -- A prefix operator and its operand.
+    prefix-read : (w : World) (op j kind : ℕ) {v : Lexeme} {xs ys : List RowToken} → Fits s w xs → xs ≡ token kind v ∷ ys → isFlagged Node.UnaryExpr op ≡ true
+        → Sim (Found s w xs) (runs s pass (moveTo j (w .row) w) (λ _ u. runs s (unaryExpr mode start op) u afterwards)) (readPrefix (s .rows) (allowsStructLiteral mode) level op ys)
+    unfolding run unaryExpr readPrefix branch _⊕_ isOdd rootKind
+    prefix-read w op j kind {xs = xs} {ys = ys} f e flat =
+        pass-rule s (moveTo j (w .row) w) (λ _ u. runs s (unaryExpr mode start op) u afterwards) f e (λ i row _ t.
+        alloc-rule s (moveTo (suc i) row w) _ start Node.UnaryExpr op (t .fit) (λ x u o f₁.
+        operand-rule s a u _ _ mode 19 prefixLevel prefixed f₁ (λ n v r zs d f₂ l.
+        push-rule s (moveTo (suc i) row w) u v _ x n o d f₂ (λ y z o₁ f₃.
+        close-branch s (moveTo (suc i) row w) z _ y o₁ flat f₃ (λ m z₁ d₁ f₄.
+        on-turns (s .bound) (suc (length zs)) w z₁ m _ xs zs (f₄ .few) (omega arith) (f .born) d₁ f₄ (omega (arith, t .shorter)) (λ _. refl))))))
+
+    -- An operand without prefix.
+    plain-read : (w : World) (j : ℕ) (xs : List RowToken) → Fits s w xs
+        → Sim (Found s w xs) (runs s tryParseStandaloneExpr (moveTo j (w .row) w) afterwards) (try (readOperand (s .rows) xs) (λ t zs. readOn (s .rows) (suc (length zs)) (allowsStructLiteral mode) level t zs) nothing)
+    unfolding run try
+    plain-read w j xs f = call-try s tryParseStandaloneExpr (moveTo j (w .row) w) afterwards _ nothing (operand-read s a (moveTo j (w .row) w) xs f) (λ x v. go)
+      where
+        go : {x : Option ℕ} {v : World} {o : Outcome} → Found s (moveTo j (w .row) w) xs x v o → Sim (Found s w xs) (afterwards x v) (try o (λ t zs. readOn (s .rows) (suc (length zs)) (allowsStructLiteral mode) level t zs) nothing)
+        go (found {n} {u} {t} {ys} d f₁ l odd) = on-turns (s .bound) (suc (length ys)) w u n t xs ys (f₁ .few) (omega arith) (f .born) d f₁ l odd
+        go (not-found i) = gives (not-found i)
+
+  pub expression-read : (mode : Mode) (min level : ℕ) (w : World) (xs : List RowToken) → Ranked min level → Fits s w xs → Sim (Found s w xs) (runs s (tryParseExprMinBp mode min) w ok) (readLevel (s .rows) (allowsStructLiteral mode) level xs)
+  unfolding run tryParseExprMinBp skipTriviaStart eatUnary unaryOf readLevel on if isFlagged isName
+  expression-read mode min level w xs rank f =
+      peek-rule s w (λ _ u. from (u .at) u) f (λ i e. unary i) (λ j kind ys e _. unary j)
+    where
+      from : ℕ → World → Fate (Option ℕ)
+      from start u = runs s eatUnary u (λ x v. runs s {A = Option ℕ} (elim x [ Option.some op ↦ unaryExpr mode start op | Option.none ↦ tryParseStandaloneExpr ]) v (afterwards mode min level start rank))
+
+      step : ℕ → Option ℕ → World → Fate (Option ℕ)
+      step start x u =
+          runs s {A = Option ℕ} (elim x [ Option.some op ↦ Then pass (λ _. Give (Option.some op)) | Option.none ↦ Give Option.none ]) u
+          (λ x v. runs s {A = Option ℕ} (elim x [ Option.some op ↦ unaryExpr mode start op | Option.none ↦ tryParseStandaloneExpr ]) v (afterwards mode min level start rank))
+
+      plain : List RowToken → Outcome
+      plain zs = try (readOperand (s .rows) zs) (λ t zs. readOn (s .rows) (suc (length zs)) (allowsStructLiteral mode) level t zs) nothing
+
+      go : (i j kind : ℕ) (ys : List RowToken) → xs ≡ token kind (lexemeOf s j) ∷ ys → (p q r : Bool)
+          → Sim (Found s w xs) (step i (elim p [ true ↦ Option.some UnaryOp.Minus | false ↦ elim q [ true ↦ Option.some UnaryOp.Bang | false ↦ elim r [ true ↦ Option.some UnaryOp.Tilde | false ↦ Option.none ] ] ]) (moveTo j (w .row) w))
+          (if p (readPrefix (s .rows) (allowsStructLiteral mode) level UnaryOp.Minus ys) (if q (readPrefix (s .rows) (allowsStructLiteral mode) level UnaryOp.Bang ys) (if r (readPrefix (s .rows) (allowsStructLiteral mode) level UnaryOp.Tilde ys) (plain xs))))
+      go i j kind ys e true q r = prefix-read mode min level i rank w UnaryOp.Minus j kind f e refl
+      go i j kind ys e false true r = prefix-read mode min level i rank w UnaryOp.Bang j kind f e refl
+      go i j kind ys e false false true = prefix-read mode min level i rank w UnaryOp.Tilde j kind f e refl
+      go i j kind ys e false false false = plain-read mode min level i rank w j xs f
+
+      unary : (i : ℕ) → Sim (Found s w xs) (from i (moveTo i (w .row) w)) (readLevel (s .rows) (allowsStructLiteral mode) level xs)
+      unary i =
+          peek-rule s (moveTo i (w .row) w) (λ kind u. step i (unaryOf kind) u) f
+          (λ i₁ e. rw e (rw e at (plain-read mode min level i rank w i₁ xs f)))
+          (λ j kind ys e _. rw e (rw e at (go i j kind ys e (eqb kind Token.Minus) (eqb kind Token.Bang) (eqb kind Token.Tilde))))
