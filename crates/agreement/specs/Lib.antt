@@ -14,3 +14,4 @@ pub mod Operands
 pub mod Expressions
 pub mod Statements
 pub mod Declarations
+pub mod Files
