@@ -8,4 +8,5 @@ pub mod First
 pub mod Rules
 pub mod Sound
 pub mod Complete
+pub mod Errors
 pub mod Examples
