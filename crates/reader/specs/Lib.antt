@@ -2,3 +2,4 @@ pub mod Read
 pub mod Cases
 pub mod Kinds
 pub mod Rows
+pub mod Demand

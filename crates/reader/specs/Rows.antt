@@ -32,6 +32,7 @@ use Rattle.definition.specs.Abstract.{Seen, good, bad, stray, seen, Passed, non
 use Rattle.definition.specs.Abstract.{rowFrom as seenFrom}
 use Rattle.definition.specs.Ends.{AtEnd, nothing-left, eof-left}
 use Rattle.chart.specs.Row.{Lexeme, RowToken, token, isBlank, rowFrom, row}
+use Rattle.chart.specs.Errors.{NoErrors, no-errors, no-error-more}
 use Rattle.chart.specs.Parser.{Readers}
 use Rattle.tree.specs.Rows.{Clean, clean, also, lexeme, lexemes, rows-same}
 use Rattle.agreement.specs.Sim.{Setting, cost, Ahead, eof-ahead, next}
@@ -258,11 +259,6 @@ error-shows k error e = go (eqb k Token.Whitespace) (eqb k Token.LineComment) (e
     go false false true d f g h i = absurd (let z = rw (eqb-true k Token.BlockComment h) at e in let y : _≡_ {A = ℕ} 0 1 = cc in omega arith)
     go false false false true f g h i = absurd (let z = rw (eqb-true k Token.Eof i) at e in let y : _≡_ {A = ℕ} 0 1 = cc in omega arith)
     go false false false false f g h i = refl
-
--- No token of the chart's row is an error token.
-pub data NoErrors : List RowToken → Type 0 where
-  no-errors : NoErrors []
-  no-error-more : {k : ℕ} {v : Lexeme} {xs : List RowToken} → lexError k ≡ Nothing → NoErrors xs → NoErrors (token k v ∷ xs)
 
 module _ (text tokens : List ℕ) where
   clean-from : (ws : List ℕ) (i : ℕ) → From tokens i ws → NoErrors (rowFrom text tokens i ws) → Clean (seenFrom tokens i (length ws))

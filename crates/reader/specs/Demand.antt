@@ -1,0 +1,105 @@
+-- Demand 3: reading and the chart never disagree.
+use mathlib.Core.Path.{_≡_, refl, sym, _∙_, ap, subst}
+use mathlib.Core.Logic.{_⊎_, inl, inr, _↔_}
+use mathlib.Core.Option.{Option}
+use mathlib.Core.Option as Option
+use mathlib.Core.List.{List, [], _∷_, map}
+use Prim.Native.Nat.{ℕ, _+_, _≤_, _<_, _^_}
+use native.Mathlib.Omega.{arith}
+use lib.ListN.{length, getD, take}
+use Rattle.words.specs.Answer.{Answer, done, refused}
+use Rattle.lexer.specs.Lex.{lexed, lexedWords}
+use Rattle.lexer.specs.Lexer.{tokensOf, word}
+use Rattle.definition.specs.Prog.{Memory}
+use Rattle.definition.specs.Parse.{Parsed, parsed, maxDepth, tokenLimit}
+use Rattle.definition.specs.Abstract.{Seen, rowFrom, World, Fate, ok, fail, deep, parsedA}
+use Rattle.definition.specs.Simulates.{Nodes, Values, Outcome, is-read, has-reports, is-late, is-deep, is-short, is-short-deep, simulates}
+use Rattle.definition.specs.Ends.{Whole, whole, read-whole}
+use Rattle.chart.specs.Row.{RowToken, row}
+use Rattle.chart.specs.Tree.{Tree, Trees, none, _▸_}
+use Rattle.chart.specs.Chart.{Derives, file}
+use Rattle.chart.specs.Parser.{parse}
+use Rattle.chart.specs.Parser as Chart
+use Rattle.chart.specs.Complete.{derived, complete, one-tree}
+use Rattle.chart.specs.Errors.{derived-clean}
+use Rattle.tree.specs.Stored.{stored}
+use Rattle.tree.specs.Grown.{Built}
+use Rattle.tree.specs.Holds.{file-held}
+use Rattle.tree.specs.Rows.{Clean}
+use Rattle.agreement.specs.Sim.{Sim, gives, fails, sinks, Made, made}
+use Rattle.agreement.specs.Files.{FileRead, file-read, file-agrees}
+use Rattle.reader.specs.Read.{Read, Lent, reads}
+use Rattle.reader.specs.Rows.{lexed-tokens, lexed-length, tokens-few, row-short, row-clean, given-cost, given-limit, given-ahead, given-clean}
+
+-- "The row is the text's tokens as the definition of demand 2 gives them" (01, The wall chart).
+abbrev pub rowOf : List ℕ → List RowToken
+rowOf text = row text (map word (tokensOf text))
+
+-- The chart derives the row of a text, with this tree.
+abbrev pub Derived : List ℕ → Trees → Type 0
+Derived text t = Derives file (rowOf text) [] t
+
+-- What reading is to leave of a text: the words of tokens, nodes and values, and the counts of tokens, nodes, value words and reports.
+-- "Report count 0 exactly when the wall chart derives the token row; the chart then derives one tree only, and it is the parser's" (demand 3).
+pub record Agreed (text tokens nodes values : List ℕ) (tokenCount nodeCount valueCount reportCount : ℕ) : Type 0 where
+  pub exactly : (reportCount ≡ 0) ↔ ((t : Trees) × Derived text t)
+  pub one : (t u : Trees) → Derived text t → Derived text u → t ≡ u
+  pub tree : (t : Trees) → Derived text t → stored text (take tokenCount tokens) nodes (take valueCount values) nodeCount ≡ Option.some t
+
+-- An answer beside an outcome is a tree of the row.
+tree-of : {text tokens : List ℕ} {f : Fate ℕ} {o : Chart.Outcome} {a : ℕ} {w : World} → Sim (Made (FileRead text tokens)) f o → f ≡ ok a w → (t : Trees) × (o ≡ Chart.ok t [])
+tree-of (gives (made (file-read {t} z b g))) e = (t ▸ none, refl)
+tree-of fails e = absurd (let z : _≡_ {A = ℕ} 0 1 = cc in omega arith)
+tree-of sinks e = absurd (let z : _≡_ {A = ℕ} 0 1 = cc in omega arith)
+
+-- A tree of the row beside what was parsed: no report, and the words hold it.
+held-by : {text tokens : List ℕ} {a b c nodes values reports : ℕ} {p : Parsed} {f : Fate ℕ} {o : Chart.Outcome} {t : Trees} → Outcome text tokens a b c p f → Sim (Made (FileRead text tokens)) f o → (o ≡ Chart.ok t []) ⊎ (o ≡ Chart.deep) → p .answer ≡ done (nodes ∷ values ∷ reports ∷ [])
+    → (reports ≡ 0) × (stored text tokens (p .words .nodes) (take values (p .words .values)) nodes ≡ Option.some t)
+held-by {text} {tokens} {nodes = nodes} {values = values} {reports = reports} {t = t} (is-read {w = w} {m = m} x y) (gives (made (file-read {t = t₁} z b g))) (inl e) q =
+    let n : nodes ≡ length (w .store) = cc in
+    let v : values ≡ length (w .values) = cc in
+    let r : reports ≡ 0 = cc in
+    let tree : t ≡ t₁ ▸ none = cc in
+    (r, rw (n, v, y .words, tree) (file-held (x .plain) (x .links g) b))
+held-by (is-read x y) (gives (made (file-read z b g))) (inr e) q = absurd (let z : _≡_ {A = ℕ} 0 1 = cc in omega arith)
+held-by (has-reports h) fails (inl e) q = absurd (let z : _≡_ {A = ℕ} 0 1 = cc in omega arith)
+held-by (has-reports h) fails (inr e) q = absurd (let z : _≡_ {A = ℕ} 0 1 = cc in omega arith)
+held-by is-late x e q = absurd (let z : _≡_ {A = ℕ} 0 1 = cc in omega arith)
+held-by is-deep x e q = absurd (let z : _≡_ {A = ℕ} 0 1 = cc in omega arith)
+held-by (is-short l) x e q = absurd (let z : _≡_ {A = ℕ} 0 1 = cc in omega arith)
+held-by (is-short-deep l) x e q = absurd (let z : _≡_ {A = ℕ} 0 1 = cc in omega arith)
+
+module _ (text : List ℕ) (lent n : ℕ) (e : lexed text lent ≡ done (n ∷ [])) where
+  abbrev tokens : List ℕ
+  tokens = take n (lexedWords text lent)
+
+  same-rows : row text tokens ≡ rowOf text
+  same-rows = ap (row text) (lexed-tokens text lent n e)
+
+  -- Where no token is an error, parsing agrees with the parser of rows.
+  parsing-agrees : Clean (rowFrom tokens 0 (length tokens)) → Sim (Made (FileRead text tokens)) (parsedA text tokens) (parse maxDepth (row text tokens))
+  parsing-agrees c =
+      file-agrees text tokens (omega (arith, lexed-length text lent n e, tokens-few text lent n e))
+      (rw (given-limit text lent n e) (given-ahead text lent n e _ _ _ _ c))
+      (given-cost text lent n e)
+      (omega (arith, row-short text tokens tokens 0, given-limit text lent n e))
+
+  module _ (a b c : ℕ) {nodes values reports : ℕ} (q : parsed text tokens a b c .answer ≡ done (nodes ∷ values ∷ reports ∷ [])) where
+    derives : reports ≡ 0 → (t : Trees) × Derived text t
+    derives z = rw (← same-rows) (go (read-whole text tokens a b c (rw z at q)) refl)
+      where
+        go : {f : Fate ℕ} → Whole text tokens a b nodes values (parsed text tokens a b c .words) f → parsedA text tokens ≡ f → (t : Trees) × Derives file (row text tokens) [] t
+        go (whole x y p h) r = let (t, o) = tree-of (parsing-agrees (given-clean text lent n e p h)) r in (t, derived maxDepth (row text tokens) t o)
+
+    held : (t : Trees) → Derived text t → (reports ≡ 0) × (stored text tokens (parsed text tokens a b c .words .nodes) (take values (parsed text tokens a b c .words .values)) nodes ≡ Option.some t)
+    held t d =
+        let d₁ : Derives file (row text tokens) [] t = rw same-rows d in
+        held-by (simulates text tokens a b c) (parsing-agrees (row-clean text tokens (derived-clean d₁))) (complete (row text tokens) t d₁ maxDepth) q
+
+    pub parsed-agreed : Agreed text (lexedWords text lent) (parsed text tokens a b c .words .nodes) (parsed text tokens a b c .words .values) n nodes values reports
+    parsed-agreed =
+        record {
+          exactly = (derives, λ x. held (x .0) (x .1) .0);
+          one = λ t u. one-tree (rowOf text) t u;
+          tree = λ t d. held t d .1;
+        }
