@@ -28,8 +28,8 @@ use Rattle.tree.specs.Holds.{file-held}
 use Rattle.tree.specs.Rows.{Clean}
 use Rattle.agreement.specs.Sim.{Sim, gives, fails, sinks, Made, made}
 use Rattle.agreement.specs.Files.{FileRead, file-read, file-agrees}
-use Rattle.reader.specs.Read.{Read, Lent, reads}
-use Rattle.reader.specs.Rows.{lexed-tokens, lexed-length, tokens-few, row-short, row-clean, given-cost, given-limit, given-ahead, given-clean}
+use Rattle.reader.specs.Read.{Read, Lent, after, parsing, afterLexing, reads}
+use Rattle.reader.specs.Rows.{Counted, counted, not-lexed, lexed-counted, lexed-tokens, lexed-length, tokens-few, row-short, row-clean, given-cost, given-limit, given-ahead, given-clean}
 
 -- "The row is the text's tokens as the definition of demand 2 gives them" (01, The wall chart).
 abbrev pub rowOf : List ℕ → List RowToken
@@ -103,3 +103,30 @@ module _ (text : List ℕ) (lent n : ℕ) (e : lexed text lent ≡ done (n ∷ [
           one = λ t u. one-tree (rowOf text) t u;
           tree = λ t d. held t d .1;
         }
+
+-- Demand 3 of reading, whatever slices are lent: where it doesn't refuse.
+pub agreed : (text : List ℕ) (lent : Lent) {tokens nodes values reports : ℕ} → reads text lent .answer ≡ done (tokens ∷ nodes ∷ values ∷ reports ∷ [])
+    → Agreed text (reads text lent .tokens) (reads text lent .nodes) (reads text lent .values) tokens nodes values reports
+unfolding reads afterLexing after
+agreed text lent {tokens = n} {nodes = nodes} {values = values} {reports = reports} = lexing (lexed text (lent .tokens)) refl
+  where
+    words : List ℕ
+    words = lexedWords text (lent .tokens)
+
+    parsed-to : (k : ℕ) → lexed text (lent .tokens) ≡ done (k ∷ []) → (y : Answer) → parsing text lent words k .answer ≡ y → after lent words k (parsing text lent words k) y .answer ≡ done (n ∷ nodes ∷ values ∷ reports ∷ [])
+        → Agreed text (after lent words k (parsing text lent words k) y .tokens) (after lent words k (parsing text lent words k) y .nodes) (after lent words k (parsing text lent words k) y .values) n nodes values reports
+    parsed-to k e (done counts) p q =
+        let c : counts ≡ nodes ∷ values ∷ reports ∷ [] = cc in
+        let z : k ≡ n = cc in
+        rw (← z) (parsed-agreed text (lent .tokens) k e (lent .nodes) (lent .values) (lent .reports) (p ∙ ap done c))
+    parsed-to k e (refused number place) p q = absurd (let z : _≡_ {A = ℕ} 0 1 = cc in omega arith)
+
+    lexing : (x : Answer) → lexed text (lent .tokens) ≡ x → afterLexing text lent words x .answer ≡ done (n ∷ nodes ∷ values ∷ reports ∷ [])
+        → Agreed text (afterLexing text lent words x .tokens) (afterLexing text lent words x .nodes) (afterLexing text lent words x .values) n nodes values reports
+    lexing (refused number place) e q = absurd (let z : _≡_ {A = ℕ} 0 1 = cc in omega arith)
+    lexing (done counts) e q = go (lexed-counted text (lent .tokens)) e q
+      where
+        go : {x : Answer} → Counted text x → x ≡ done counts → afterLexing text lent words (done counts) .answer ≡ done (n ∷ nodes ∷ values ∷ reports ∷ [])
+            → Agreed text (afterLexing text lent words (done counts) .tokens) (afterLexing text lent words (done counts) .nodes) (afterLexing text lent words (done counts) .values) n nodes values reports
+        go (counted h) r q = let c : counts ≡ length (tokensOf text) ∷ [] = cc in rw c (parsed-to (length (tokensOf text)) (e ∙ ap done c) _ refl (rw c at q))
+        go not-lexed r q = absurd (let z : _≡_ {A = ℕ} 0 1 = cc in omega arith)

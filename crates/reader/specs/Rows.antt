@@ -41,11 +41,11 @@ use Rattle.reader.specs.Kinds.{token-low}
 -- ---- what lexing answers
 
 -- A text that was lexed is short, and its tokens are counted.
-data Counted (text : List ℕ) : Answer → Type 0 where
+pub data Counted (text : List ℕ) : Answer → Type 0 where
   counted : length text ≤ longestText → Counted text (done (length (tokensOf text) ∷ []))
   not-lexed : {number place : ℕ} → Counted text (refused number place)
 
-lexed-counted : (text : List ℕ) (lent : ℕ) → Counted text (lexed text lent)
+pub lexed-counted : (text : List ℕ) (lent : ℕ) → Counted text (lexed text lent)
 unfolding lexed
 lexed-counted text lent = long (ltb longestText (length text)) refl
   where
