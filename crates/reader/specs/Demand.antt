@@ -7,13 +7,14 @@ use mathlib.Core.List.{List, [], _∷_, map}
 use Prim.Native.Nat.{ℕ, _+_, _≤_, _<_, _^_}
 use native.Mathlib.Omega.{arith}
 use lib.ListN.{length, getD, take}
+use Rattle.words.specs.Refusal
 use Rattle.words.specs.Answer.{Answer, done, refused}
 use Rattle.lexer.specs.Lex.{lexed, lexedWords}
 use Rattle.lexer.specs.Lexer.{tokensOf, word}
 use Rattle.definition.specs.Prog.{Memory}
 use Rattle.definition.specs.Parse.{Parsed, parsed, maxDepth, tokenLimit}
 use Rattle.definition.specs.Abstract.{Seen, rowFrom, World, Fate, ok, fail, deep, parsedA}
-use Rattle.definition.specs.Simulates.{Nodes, Values, Outcome, is-read, has-reports, is-late, is-deep, is-short, is-short-deep, simulates}
+use Rattle.definition.specs.Simulates.{Nodes, Values, Outcome, is-read, has-reports, is-late, is-deep, is-short, is-short-deep, simulates, Enough, answered, too-deep}
 use Rattle.definition.specs.Ends.{Whole, whole, read-whole}
 use Rattle.chart.specs.Row.{RowToken, row}
 use Rattle.chart.specs.Tree.{Tree, Trees, none, _▸_}
@@ -21,9 +22,9 @@ use Rattle.chart.specs.Chart.{Derives, file}
 use Rattle.chart.specs.Parser.{parse}
 use Rattle.chart.specs.Parser as Chart
 use Rattle.chart.specs.Complete.{derived, complete, one-tree}
-use Rattle.chart.specs.Errors.{derived-clean}
+use Rattle.chart.specs.Errors.{NoErrors, derived-clean}
 use Rattle.tree.specs.Stored.{stored}
-use Rattle.tree.specs.Grown.{Built}
+use Rattle.tree.specs.Grown.{sizes, Built}
 use Rattle.tree.specs.Holds.{file-held}
 use Rattle.tree.specs.Rows.{Clean}
 use Rattle.agreement.specs.Sim.{Sim, gives, fails, sinks, Made, made}
@@ -45,6 +46,8 @@ pub record Agreed (text tokens nodes values : List ℕ) (tokenCount nodeCount va
   pub exactly : (reportCount ≡ 0) ↔ ((t : Trees) × Derived text t)
   pub one : (t u : Trees) → Derived text t → Derived text u → t ≡ u
   pub tree : (t : Trees) → Derived text t → stored text (take tokenCount tokens) nodes (take valueCount values) nodeCount ≡ Option.some t
+  -- All counted nodes are in it.
+  pub all : (t : Trees) → Derived text t → sizes t ≡ nodeCount
 
 -- An answer beside an outcome is a tree of the row.
 tree-of : {text tokens : List ℕ} {f : Fate ℕ} {o : Chart.Outcome} {a : ℕ} {w : World} → Sim (Made (FileRead text tokens)) f o → f ≡ ok a w → (t : Trees) × (o ≡ Chart.ok t [])
@@ -52,15 +55,27 @@ tree-of (gives (made (file-read {t} z b g))) e = (t ▸ none, refl)
 tree-of fails e = absurd (let z : _≡_ {A = ℕ} 0 1 = cc in omega arith)
 tree-of sinks e = absurd (let z : _≡_ {A = ℕ} 0 1 = cc in omega arith)
 
+-- A tree of the row is an answer; a row too deep is too deep.
+answer-of : {text tokens : List ℕ} {f : Fate ℕ} {o : Chart.Outcome} {t : Trees} → Sim (Made (FileRead text tokens)) f o → o ≡ Chart.ok t [] → (a : ℕ) × (w : World) × (f ≡ ok a w)
+answer-of (gives {a} {u} x) e = (a, u, refl)
+answer-of fails e = absurd (let z : _≡_ {A = ℕ} 0 1 = cc in omega arith)
+answer-of sinks e = absurd (let z : _≡_ {A = ℕ} 0 1 = cc in omega arith)
+
+depth-of : {text tokens : List ℕ} {f : Fate ℕ} {o : Chart.Outcome} → Sim (Made (FileRead text tokens)) f o → o ≡ Chart.deep → (w : World) × (f ≡ deep w)
+depth-of (gives (made x)) e = absurd (let z : _≡_ {A = ℕ} 0 1 = cc in omega arith)
+depth-of fails e = absurd (let z : _≡_ {A = ℕ} 0 1 = cc in omega arith)
+depth-of (sinks {u}) e = (u, refl)
+
 -- A tree of the row beside what was parsed: no report, and the words hold it.
 held-by : {text tokens : List ℕ} {a b c nodes values reports : ℕ} {p : Parsed} {f : Fate ℕ} {o : Chart.Outcome} {t : Trees} → Outcome text tokens a b c p f → Sim (Made (FileRead text tokens)) f o → (o ≡ Chart.ok t []) ⊎ (o ≡ Chart.deep) → p .answer ≡ done (nodes ∷ values ∷ reports ∷ [])
-    → (reports ≡ 0) × (stored text tokens (p .words .nodes) (take values (p .words .values)) nodes ≡ Option.some t)
+    → (reports ≡ 0) × (stored text tokens (p .words .nodes) (take values (p .words .values)) nodes ≡ Option.some t) × (sizes t ≡ nodes)
+unfolding sizes
 held-by {text} {tokens} {nodes = nodes} {values = values} {reports = reports} {t = t} (is-read {w = w} {m = m} x y) (gives (made (file-read {t = t₁} z b g))) (inl e) q =
     let n : nodes ≡ length (w .store) = cc in
     let v : values ≡ length (w .values) = cc in
     let r : reports ≡ 0 = cc in
     let tree : t ≡ t₁ ▸ none = cc in
-    (r, rw (n, v, y .words, tree) (file-held (x .plain) (x .links g) b))
+    (r, rw (n, v, y .words, tree) (file-held (x .plain) (x .links g) b), rw (n, tree) (omega (arith, b .size-is)))
 held-by (is-read x y) (gives (made (file-read z b g))) (inr e) q = absurd (let z : _≡_ {A = ℕ} 0 1 = cc in omega arith)
 held-by (has-reports h) fails (inl e) q = absurd (let z : _≡_ {A = ℕ} 0 1 = cc in omega arith)
 held-by (has-reports h) fails (inr e) q = absurd (let z : _≡_ {A = ℕ} 0 1 = cc in omega arith)
@@ -84,6 +99,19 @@ module _ (text : List ℕ) (lent n : ℕ) (e : lexed text lent ≡ done (n ∷ [
       (given-cost text lent n e)
       (omega (arith, row-short text tokens tokens 0, given-limit text lent n e))
 
+  -- Where the parser of rows answers a tree at the depth that is allowed, reading into long enough slices doesn't refuse.
+  pub reads-through : (t : Trees) → parse maxDepth (rowOf text) ≡ Chart.ok t [] → (w : World) × ((a b c : ℕ) → Enough text tokens a b c w → parsed text tokens a b c .answer ≡ done (length (w .store) ∷ length (w .values) ∷ 0 ∷ []))
+  reads-through t p =
+      let p₁ : parse maxDepth (row text tokens) ≡ Chart.ok t [] = rw same-rows p in
+      let x = answer-of (parsing-agrees (row-clean text tokens (derived-clean (derived maxDepth (row text tokens) t p₁)))) p₁ in
+      (x .1, λ a b c h. answered text tokens a b c (x .2) h)
+
+  -- Where no token is an error and it is too deep, reading into long enough slices refuses with 3.
+  pub sinks-too : NoErrors (rowOf text) → parse maxDepth (rowOf text) ≡ Chart.deep → (w : World) × ((a b c : ℕ) → Enough text tokens a b c w → parsed text tokens a b c .answer ≡ refused Refusal.TooDeep (w .at))
+  sinks-too h p =
+      let x = depth-of (parsing-agrees (row-clean text tokens (rw same-rows h))) (rw same-rows p) in
+      (x .0, λ a b c h. too-deep text tokens a b c (x .1) h)
+
   module _ (a b c : ℕ) {nodes values reports : ℕ} (q : parsed text tokens a b c .answer ≡ done (nodes ∷ values ∷ reports ∷ [])) where
     derives : reports ≡ 0 → (t : Trees) × Derived text t
     derives z = rw (← same-rows) (go (read-whole text tokens a b c (rw z at q)) refl)
@@ -91,7 +119,7 @@ module _ (text : List ℕ) (lent n : ℕ) (e : lexed text lent ≡ done (n ∷ [
         go : {f : Fate ℕ} → Whole text tokens a b nodes values (parsed text tokens a b c .words) f → parsedA text tokens ≡ f → (t : Trees) × Derives file (row text tokens) [] t
         go (whole x y p h) r = let (t, o) = tree-of (parsing-agrees (given-clean text lent n e p h)) r in (t, derived maxDepth (row text tokens) t o)
 
-    held : (t : Trees) → Derived text t → (reports ≡ 0) × (stored text tokens (parsed text tokens a b c .words .nodes) (take values (parsed text tokens a b c .words .values)) nodes ≡ Option.some t)
+    held : (t : Trees) → Derived text t → (reports ≡ 0) × (stored text tokens (parsed text tokens a b c .words .nodes) (take values (parsed text tokens a b c .words .values)) nodes ≡ Option.some t) × (sizes t ≡ nodes)
     held t d =
         let d₁ : Derives file (row text tokens) [] t = rw same-rows d in
         held-by (simulates text tokens a b c) (parsing-agrees (row-clean text tokens (derived-clean d₁))) (complete (row text tokens) t d₁ maxDepth) q
@@ -102,6 +130,7 @@ module _ (text : List ℕ) (lent n : ℕ) (e : lexed text lent ≡ done (n ∷ [
           exactly = (derives, λ x. held (x .0) (x .1) .0);
           one = λ t u. one-tree (rowOf text) t u;
           tree = λ t d. held t d .1;
+          all = λ t d. held t d .2;
         }
 
 -- Demand 3 of reading, whatever slices are lent: where it doesn't refuse.
