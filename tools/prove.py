@@ -400,7 +400,8 @@ def need_order(lts):
 def binders(member):
     """The variables of a function's body, in the order of the text, which is that of the locals after the parameters."""
     crate, *within, name = member.split("::")
-    source = open(f"crates/{crate}/src/{'/'.join(within) or 'lib'}.rt").read()
+    root = "lib" if os.path.exists(f"crates/{crate}/src/lib.rt") else "main"
+    source = open(f"crates/{crate}/src/{'/'.join(within) or root}.rt").read()
     body = source[re.search(rf"\bfn {name}\(", source).start():].split("\n}\n")[0]
     found = re.findall(r"\blet (?:mut )?(\w+)|\bfor (\w+) in|::\w+\((\w+)\)(?= =>)", body)
     return ["".join(names) for names in found]

@@ -1,9 +1,74 @@
-// The library for programs in C and Rust: plain numbers and slices.
+// The library: reading a script, and lexing it for programs in C and Rust, in plain numbers and slices.
 ghost use mathlib.Core.Path.{_≡_};
+ghost use mathlib.Core.List.{[], _∷_};
+ghost use Prim.Native.Nat.{_≤_};
 ghost use lib.ListN.{length};
+ghost use Rattle.words.specs.Answer.{done};
 ghost use Rattle.lexer.specs.Lex.{lexed, lexedWords};
+ghost use Rattle.parser.specs.Answers.{zeroed};
+ghost use Rattle.reader.specs.Read.{afterLexing, reads};
 ghost use Rattle.plank.specs.Coded.{coded};
+ghost use Rattle.plank.specs.Reads.{given, lent};
 use lexer::Lexed;
+use parser::Parsed;
+
+// What reading answers: the counts of tokens, nodes, value words and reports, or a refusal's number and place.
+pub enum Outcome {
+    Counts(usize, u32, usize, usize),
+    Refused(u32, u32),
+}
+
+fn clear(words: &mut [u32])
+    ensures { λ _. ⌜ now (words .exit) ≡ zeroed (now (words .entry)) ⌝ }
+{
+    let mut i = 0;
+    while i < words.len() {
+        words[i] = 0;
+        i += 1;
+    }
+}
+
+// The first n words are the tokens that were lexed; they are parsed.
+fn parse_lexed(
+    text: &[u8],
+    tokens: &mut [u32],
+    nodes: &mut [u32],
+    values: &mut [u32],
+    reports: &mut [u32],
+    n: usize,
+) -> Outcome
+    requires { ⌜ n ≤ length (now tokens) ⌝ }
+    ensures { λ r. ⌜ given r (now (tokens .exit)) (now (nodes .exit)) (now (values .exit)) (now (reports .exit)) ≡ afterLexing (now (text .entry)) (lent (now (tokens .entry)) (now (nodes .entry)) (now (values .entry)) (now (reports .entry))) (now (tokens .entry)) (done (n ∷ [])) ⌝ }
+{
+    match parser::parse(text, &tokens[..n], nodes, values, reports) {
+        Parsed::Counts(nodes, values, reports) => Outcome::Counts(n, nodes, values, reports),
+        Parsed::Refused(number, place) => {
+            clear(tokens);
+            Outcome::Refused(number, place)
+        }
+    }
+}
+
+// A text to its tokens, nodes, values and reports, as words; the rest of each slice is 0, and all of them on refusal.
+pub fn read(
+    text: &[u8],
+    tokens: &mut [u32],
+    nodes: &mut [u32],
+    values: &mut [u32],
+    reports: &mut [u32],
+) -> Outcome
+    ensures { λ r. ⌜ given r (now (tokens .exit)) (now (nodes .exit)) (now (values .exit)) (now (reports .exit)) ≡ reads (now (text .entry)) (lent (now (tokens .entry)) (now (nodes .entry)) (now (values .entry)) (now (reports .entry))) ⌝ }
+{
+    match lexer::lex(text, tokens) {
+        Lexed::Tokens(n) => parse_lexed(text, tokens, nodes, values, reports, n),
+        Lexed::Refused(number, place) => {
+            clear(nodes);
+            clear(values);
+            clear(reports);
+            Outcome::Refused(number, place as u32)
+        }
+    }
+}
 
 // `lexer::lex`, its answer as one number: the number of tokens, or a refusal's number times 2 to the 32nd and its place.
 #[no_mangle]
