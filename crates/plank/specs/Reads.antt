@@ -23,6 +23,7 @@ use Rattle.parser.specs.declared.Parsed.the-variants as Parsing
 use Rattle.parser.specs.Answers as Parser
 use Rattle.parser.specs.Answers.{zeroed}
 use Rattle.reader.specs.Read.{Read, Lent, after, afterLexing, reads}
+use Rattle.reader.specs.Demand.{Agrees, agrees-of}
 use Rattle.plank.specs.declared.Outcome.{Outcome}
 use Rattle.plank.specs.declared.Outcome.the-variants.{Counts, Refused}
 
@@ -113,3 +114,7 @@ module _ (text ws ws′ ns vs rs : List ℕ) (k : length ws′ ≡ length ws) (w
     where
       refused-left : lexedWords text (length ws) ≡ replicate (length ws) 0
       refused-left = unfold lexedWords in (rw (← e) refl)
+
+-- Both clauses of the contract: the equation, and demand 3, which follows from it.
+pub both-clauses : (text : List ℕ) (l : Lent) {q : Read} → q ≡ reads text l → (q ≡ reads text l) × Agrees text q
+both-clauses text l e = (e, agrees-of text l e)

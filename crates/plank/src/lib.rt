@@ -7,6 +7,7 @@ ghost use Rattle.words.specs.Answer.{done};
 ghost use Rattle.lexer.specs.Lex.{lexed, lexedWords};
 ghost use Rattle.parser.specs.Answers.{zeroed};
 ghost use Rattle.reader.specs.Read.{afterLexing, reads};
+ghost use Rattle.reader.specs.Demand.{Agrees};
 ghost use Rattle.plank.specs.Coded.{coded};
 ghost use Rattle.plank.specs.Reads.{given, lent};
 use lexer::Lexed;
@@ -50,6 +51,7 @@ fn parse_lexed(
 }
 
 // A text to its tokens, nodes, values and reports, as words; the rest of each slice is 0, and all of them on refusal.
+// Report count 0 exactly where the chart derives the text's row of tokens, which then has one tree, and the words hold it.
 pub fn read(
     text: &[u8],
     tokens: &mut [u32],
@@ -57,7 +59,7 @@ pub fn read(
     values: &mut [u32],
     reports: &mut [u32],
 ) -> Outcome
-    ensures { λ r. ⌜ given r (now (tokens .exit)) (now (nodes .exit)) (now (values .exit)) (now (reports .exit)) ≡ reads (now (text .entry)) (lent (now (tokens .entry)) (now (nodes .entry)) (now (values .entry)) (now (reports .entry))) ⌝ }
+    ensures { λ r. ⌜ (given r (now (tokens .exit)) (now (nodes .exit)) (now (values .exit)) (now (reports .exit)) ≡ reads (now (text .entry)) (lent (now (tokens .entry)) (now (nodes .entry)) (now (values .entry)) (now (reports .entry)))) × Agrees (now (text .entry)) (given r (now (tokens .exit)) (now (nodes .exit)) (now (values .exit)) (now (reports .exit))) ⌝ }
 {
     match lexer::lex(text, tokens) {
         Lexed::Tokens(n) => parse_lexed(text, tokens, nodes, values, reports, n),

@@ -159,3 +159,11 @@ agreed text lent {tokens = n} {nodes = nodes} {values = values} {reports = repor
             → Agreed text (afterLexing text lent words (done counts) .tokens) (afterLexing text lent words (done counts) .nodes) (afterLexing text lent words (done counts) .values) n nodes values reports
         go (counted h) r q = let c : counts ≡ length (tokensOf text) ∷ [] = cc in rw c (parsed-to (length (tokensOf text)) (e ∙ ap done c) _ refl (rw c at q))
         go not-lexed r q = absurd (let z : _≡_ {A = ℕ} 0 1 = cc in omega arith)
+
+-- Demand 3 of an answer and the words that came with it. Its only hypothesis is that the answer is no refusal: the row comes from the text,
+-- the tree from the words, the counts from the answer.
+abbrev pub Agrees : List ℕ → Read → Type 0
+Agrees text q = (tokens nodes values reports : ℕ) → q .answer ≡ done (tokens ∷ nodes ∷ values ∷ reports ∷ []) → Agreed text (q .tokens) (q .nodes) (q .values) tokens nodes values reports
+
+pub agrees-of : (text : List ℕ) (lent : Lent) {q : Read} → q ≡ reads text lent → Agrees text q
+agrees-of text lent e n nodes values reports h = rw e (agreed text lent (rw e at h))
