@@ -45,7 +45,7 @@ same-length-5 : tie.Need-same-length-5
 same-length-5 c = search needs
 
 returns : tie.Need-returns
-returns c = told (c .before .before .before .before .before .before .before .before .before .before .before .before .before .before .before .read .ensures) (c .before .before .before .before .before .t .given .1) refl (c .before .before .put-all-counts .ensures)
+returns c = told (c .before .before .before .before .before .before .before .before .before .before .before .before .before .before .before .read .ensures .0) (c .before .before .before .before .before .t .given .1) refl (c .before .before .put-all-counts .ensures)
 
 same-length-6 : tie.Need-same-length-6
 same-length-6 c = search needs
@@ -60,7 +60,7 @@ same-length-9 : tie.Need-same-length-9
 same-length-9 c = search needs
 
 returns-2 : tie.Need-returns-2
-returns-2 c = told (c .before .before .before .before .before .before .before .before .before .before .before .read .ensures) (c .before .number .given .1) refl refl
+returns-2 c = told (c .before .before .before .before .before .before .before .before .before .before .before .read .ensures .0) (c .before .number .given .1) refl refl
 
 pub plank-read-spec : {M : Type 1} → statement M
 plank-read-spec =
