@@ -2,5 +2,6 @@ pub mod Stored
 pub mod Grown
 pub mod Values
 pub mod Holds
+pub mod Linked
 pub mod Rows
 pub mod Examples
