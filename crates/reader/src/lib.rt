@@ -1,1 +1,1 @@
-// Reading as a whole, lexing and then parsing: a definition, no code that runs yet.
+// Reading as a whole, lexing and then parsing: a definition; the code is `read` of crate plank.

@@ -1,10 +1,10 @@
 //! What a call answers and leaves in the lent slice, and what it should, by the reference.
 
-const MOST_BYTES: usize = 65_536;
+pub const MOST_BYTES: usize = 65_536;
 
-const NOT_UTF8: u32 = 1;
-const TOO_LONG: u32 = 2;
-const TOKENS_DONT_FIT: u32 = 4;
+pub const NOT_UTF8: u32 = 1;
+pub const TOO_LONG: u32 = 2;
+pub const TOKENS_DONT_FIT: u32 = 4;
 
 #[derive(Debug, Clone, PartialEq, Eq)]
 pub struct Answer {

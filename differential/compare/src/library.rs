@@ -1,7 +1,6 @@
 //! Calls of the library under test.
 
-use crate::{answer::Answer, parse};
-use oracle::Lengths;
+use crate::{answer::Answer, parse, parse::Lent as Lengths};
 
 unsafe extern "C" {
     fn plank_lex(text: *const u8, text_len: usize, tokens: *mut u32, tokens_len: usize) -> u64;
@@ -10,6 +9,21 @@ unsafe extern "C" {
         text: *const u8,
         text_len: usize,
         tokens: *const u32,
+        tokens_len: usize,
+        nodes: *mut u32,
+        nodes_len: usize,
+        values: *mut u32,
+        values_len: usize,
+        reports: *mut u32,
+        reports_len: usize,
+        counts: *mut u64,
+        counts_len: usize,
+    ) -> u64;
+
+    fn plank_read(
+        text: *const u8,
+        text_len: usize,
+        tokens: *mut u32,
         tokens_len: usize,
         nodes: *mut u32,
         nodes_len: usize,
@@ -79,40 +93,94 @@ pub fn lex(text: &[u8], lent: usize) -> Answer {
     }
 }
 
-pub fn parse(text: &str, tokens: &[u32], lent: Lengths) -> parse::Answer {
-    let memory = [text.as_bytes(), BEHIND_TEXT].concat();
-    let token_memory = [tokens, &BEHIND_TOKENS].concat();
-    let mut nodes = Lent::new(lent.nodes, FILL);
-    let mut values = Lent::new(lent.values, FILL);
-    let mut reports = Lent::new(lent.reports, FILL);
-    let mut counts = Lent::new(3, COUNT_FILL);
-    // Safety: all pointers and lengths are those of live slices, the last four unshared.
-    let packed = unsafe {
-        plank_parse(
-            memory.as_ptr(),
-            text.len(),
-            token_memory.as_ptr(),
-            tokens.len(),
-            nodes.slice().as_mut_ptr(),
-            lent.nodes,
-            values.slice().as_mut_ptr(),
-            lent.values,
-            reports.slice().as_mut_ptr(),
-            lent.reports,
-            counts.slice().as_mut_ptr(),
-            3,
-        )
+/// The slices lent to `parse` and `read`.
+struct Slices {
+    tokens: Lent<u32>,
+    nodes: Lent<u32>,
+    values: Lent<u32>,
+    reports: Lent<u32>,
+    counts: Lent<u64>,
+}
+
+impl Slices {
+    fn new(lent: Lengths) -> Self {
+        Slices {
+            tokens: Lent::new(lent.tokens.unwrap_or(0), FILL),
+            nodes: Lent::new(lent.rest.nodes, FILL),
+            values: Lent::new(lent.rest.values, FILL),
+            reports: Lent::new(lent.rest.reports, FILL),
+            counts: Lent::new(lent.counts(), COUNT_FILL),
+        }
+    }
+
+    fn is_kept(&self) -> bool {
+        let words = [&self.tokens, &self.nodes, &self.values, &self.reports];
+        words.iter().all(|lent| lent.is_kept()) && self.counts.is_kept()
+    }
+
+    fn answer(self, packed: u64, is_text_kept: bool) -> parse::Answer {
+        parse::Answer {
+            number: (packed >> 32) as u32,
+            place: packed as u32,
+            stayed_inside: self.is_kept() && is_text_kept,
+            counts: self.counts.back(),
+            tokens: self.tokens.back(),
+            nodes: self.nodes.back(),
+            values: self.values.back(),
+            reports: self.reports.back(),
+        }
+    }
+}
+
+/// Lexes the text itself where words are lent for tokens, and is given the tokens otherwise.
+pub fn parse(text: &[u8], tokens: &[u32], lent: Lengths) -> parse::Answer {
+    let memory = [text, BEHIND_TEXT].concat();
+    let mut slices = Slices::new(lent);
+    let packed = match lent.tokens {
+        Some(_) => call_read(&memory, text.len(), &mut slices),
+        None => call_parse(&memory, text.len(), &[tokens, &BEHIND_TOKENS].concat(), &mut slices),
     };
-    let is_kept = nodes.is_kept() && values.is_kept() && reports.is_kept() && counts.is_kept();
-    parse::Answer {
-        number: (packed >> 32) as u32,
-        place: packed as u32,
-        counts: counts.back(),
-        nodes: nodes.back(),
-        values: values.back(),
-        reports: reports.back(),
-        stayed_inside: is_kept
-            && memory.ends_with(BEHIND_TEXT)
-            && memory.starts_with(text.as_bytes()),
+    slices.answer(packed, memory.ends_with(BEHIND_TEXT) && memory.starts_with(text))
+}
+
+fn call_parse(text: &[u8], text_len: usize, tokens: &[u32], slices: &mut Slices) -> u64 {
+    let Slices { nodes, values, reports, counts, .. } = slices;
+    // Safety: all pointers and lengths are those of live slices, the last four unshared.
+    unsafe {
+        plank_parse(
+            text.as_ptr(),
+            text_len,
+            tokens.as_ptr(),
+            tokens.len() - BEHIND_TOKENS.len(),
+            nodes.slice().as_mut_ptr(),
+            nodes.length,
+            values.slice().as_mut_ptr(),
+            values.length,
+            reports.slice().as_mut_ptr(),
+            reports.length,
+            counts.slice().as_mut_ptr(),
+            counts.length,
+        )
+    }
+}
+
+fn call_read(text: &[u8], text_len: usize, slices: &mut Slices) -> u64 {
+    let Slices { tokens, nodes, values, reports, counts } = slices;
+    // Safety: all pointers and lengths are those of live slices, the last five unshared.
+    unsafe {
+        plank_read(
+            text.as_ptr(),
+            text_len,
+            tokens.slice().as_mut_ptr(),
+            tokens.length,
+            nodes.slice().as_mut_ptr(),
+            nodes.length,
+            values.slice().as_mut_ptr(),
+            values.length,
+            reports.slice().as_mut_ptr(),
+            reports.length,
+            counts.slice().as_mut_ptr(),
+            counts.length,
+        )
     }
 }

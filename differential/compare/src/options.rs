@@ -5,6 +5,8 @@ use std::path::PathBuf;
 
 pub const USAGE: &str = "compare lex [--texts N] [--seed S] [--plant]
 compare parse [--texts N] [--seed S] [--plant FAULT]
+compare read [--texts N] [--seed S] [--plant FAULT]
+compare chart [--texts N] [--seed S] [--plant]
 compare record FILE
 compare record-parse FILE";
 
@@ -12,6 +14,8 @@ compare record-parse FILE";
 pub enum Command {
     Lex(LexOptions),
     Parse(ParseOptions),
+    Read(ParseOptions),
+    Chart(LexOptions),
     Record { file: PathBuf },
     RecordParse { file: PathBuf },
 }
@@ -39,6 +43,8 @@ impl Command {
         match arguments.next().as_deref() {
             Some("lex") => Ok(Command::Lex(LexOptions::read(arguments)?)),
             Some("parse") => Ok(Command::Parse(ParseOptions::read(arguments)?)),
+            Some("read") => Ok(Command::Read(ParseOptions::read(arguments)?)),
+            Some("chart") => Ok(Command::Chart(LexOptions::read(arguments)?)),
             Some("record") => Ok(Command::Record { file: file(arguments.next())? }),
             Some("record-parse") => Ok(Command::RecordParse { file: file(arguments.next())? }),
             _ => Err("no such command".to_string()),

@@ -1,4 +1,4 @@
-//! The comparison of parsing.
+//! The comparison of parsing and of reading.
 
 mod answer;
 mod check;
@@ -10,7 +10,8 @@ mod record;
 mod run;
 mod tally;
 
-pub use answer::Answer;
+pub use answer::{Answer, Lent};
 pub use fault::{FAULTS, Fault};
+pub use lengths::Call;
 pub use record::write as record;
-pub use run::parse;
+pub use run::run;

@@ -1,7 +1,26 @@
-//! What a call answers and leaves in the lent slices, and what it should, by the reference.
+//! What a call of `parse` or `read` answers and leaves in the lent slices, and what it should, by
+//! the reference.
 
-use crate::library::COUNT_FILL;
+use crate::{
+    answer::{MOST_BYTES, NOT_UTF8, TOKENS_DONT_FIT, TOO_LONG},
+    library::COUNT_FILL,
+};
 use oracle::{End, Lengths, Refusal, Run, Words};
+
+/// The lengths of all slices that are lent, in words.
+#[derive(Debug, Clone, Copy, PartialEq, Eq)]
+pub struct Lent {
+    /// For tokens, where `read` makes them; none where `parse` is given them.
+    pub tokens: Option<usize>,
+    pub rest: Lengths,
+}
+
+impl Lent {
+    /// How many counts are given.
+    pub fn counts(&self) -> usize {
+        3 + usize::from(self.tokens.is_some())
+    }
+}
 
 #[derive(Debug, Clone, PartialEq, Eq)]
 pub struct Answer {
@@ -9,9 +28,11 @@ pub struct Answer {
     pub number: u32,
     /// 0 where the call was done, else the refusal's place.
     pub place: u32,
-    /// Those of nodes, value words and reports; as they were lent on refusal.
+    /// Those of tokens (of `read` alone), nodes, value words and reports; as they were lent on
+    /// refusal.
     pub counts: Vec<u64>,
-    /// The whole lent slices.
+    /// The whole lent slices; no tokens where they are given.
+    pub tokens: Vec<u32>,
     pub nodes: Vec<u32>,
     pub values: Vec<u32>,
     pub reports: Vec<u32>,
@@ -22,41 +43,61 @@ pub struct Answer {
 impl Answer {
     /// The answer where slices of these lengths are lent; none where the reference panicked
     /// before it came so far.
-    pub fn expected(run: &Run, lent: Lengths) -> Option<Answer> {
-        if let Some(refusal) = run.refusal(lent) {
+    pub fn expected(run: &Run, lent: Lent) -> Option<Answer> {
+        let tokens = run.tokens.len();
+        if lent.tokens.is_some_and(|length| length < tokens) {
+            return Some(Answer::refused(refusal(TOKENS_DONT_FIT, tokens), lent));
+        }
+        if let Some(refusal) = run.refusal(lent.rest) {
             return Some(Answer::refused(refusal, lent));
         }
         match &run.end {
-            End::Read(words) => Some(Answer::done(words, lent)),
+            End::Read(words) => Some(Answer::done(&run.tokens, words, lent)),
             End::TooDeep | End::Panicked(_) => None,
         }
     }
 
-    fn done(words: &Words, lent: Lengths) -> Answer {
+    /// The answer to a text that the reference can't be given.
+    pub fn unreadable(text: &[u8], lent: Lent) -> Option<Answer> {
+        if text.len() > MOST_BYTES {
+            return Some(Answer::refused(refusal(TOO_LONG, MOST_BYTES), lent));
+        }
+        let error = str::from_utf8(text).err()?;
+        Some(Answer::refused(refusal(NOT_UTF8, error.valid_up_to()), lent))
+    }
+
+    fn done(tokens: &[u32], words: &Words, lent: Lent) -> Answer {
         let Words { nodes, values, reports, .. } = words;
-        let counts = [nodes.len() / 5, values.len(), reports.len() / 3];
+        let first = lent.tokens.map(|_| tokens.len());
+        let counts = first.into_iter().chain([nodes.len() / 5, values.len(), reports.len() / 3]);
         Answer {
             number: 0,
             place: 0,
-            counts: counts.map(|count| count as u64).to_vec(),
-            nodes: filled_up(nodes, lent.nodes),
-            values: filled_up(values, lent.values),
-            reports: filled_up(reports, lent.reports),
+            counts: counts.map(|count| count as u64).collect(),
+            tokens: lent.tokens.map_or(Vec::new(), |length| filled_up(tokens, length)),
+            nodes: filled_up(nodes, lent.rest.nodes),
+            values: filled_up(values, lent.rest.values),
+            reports: filled_up(reports, lent.rest.reports),
             stayed_inside: true,
         }
     }
 
-    fn refused(refusal: Refusal, lent: Lengths) -> Answer {
+    fn refused(refusal: Refusal, lent: Lent) -> Answer {
         Answer {
             number: refusal.number,
             place: refusal.place,
-            counts: vec![COUNT_FILL; 3],
-            nodes: vec![0; lent.nodes],
-            values: vec![0; lent.values],
-            reports: vec![0; lent.reports],
+            counts: vec![COUNT_FILL; lent.counts()],
+            tokens: vec![0; lent.tokens.unwrap_or(0)],
+            nodes: vec![0; lent.rest.nodes],
+            values: vec![0; lent.rest.values],
+            reports: vec![0; lent.rest.reports],
             stayed_inside: true,
         }
     }
+}
+
+fn refusal(number: u32, place: usize) -> Refusal {
+    Refusal { number, place: place as u32 }
 }
 
 fn filled_up(words: &[u32], length: usize) -> Vec<u32> {

@@ -2,14 +2,19 @@
 
 use crate::{
     library,
-    parse::{answer::Answer, fault::Fault, lengths::lengths, tally::Tally},
+    parse::{
+        answer::{Answer, Lent},
+        fault::Fault,
+        lengths::{Call, lent_to_unreadable},
+        tally::Tally,
+    },
 };
 use oracle::{End, Lengths, Run};
 use std::fmt;
 
 /// A call whose answer isn't the reference's.
 pub struct Difference {
-    lent: Lengths,
+    lent: Lent,
     expected: Expected,
     found: Answer,
 }
@@ -20,21 +25,46 @@ enum Expected {
     Start(String),
 }
 
-pub fn first_difference(text: &str, fault: Option<Fault>, tally: &mut Tally) -> Option<Difference> {
+pub fn first_difference(
+    text: &str,
+    call: Call,
+    fault: Option<Fault>,
+    tally: &mut Tally,
+) -> Option<Difference> {
     let mut run = oracle::run(text);
     tally.add_text(&run);
     if let Some(fault) = fault {
         fault.plant(&mut run);
     }
-    let all = lengths(text, run.need());
-    let difference = all.into_iter().find_map(|lent| difference_at(text, &run, lent, tally));
-    difference.or_else(|| difference_in_start(text, &run))
+    let mut all = call.lent(text, &run).into_iter();
+    let difference = all.find_map(|lent| difference_at(text, &run, lent, fault, tally));
+    difference.or_else(|| difference_in_start(text, call, &run))
 }
 
-fn difference_at(text: &str, run: &Run, lent: Lengths, tally: &mut Tally) -> Option<Difference> {
-    let expected = Answer::expected(run, lent)?;
+/// The same for a text that is too long or isn't UTF-8: `read` refuses it whatever is lent.
+pub fn first_difference_unreadable(text: &[u8], tally: &mut Tally) -> Option<Difference> {
+    lent_to_unreadable(text).into_iter().find_map(|lent| {
+        let expected = Answer::unreadable(text, lent)?;
+        tally.add_call(expected.number);
+        let found = library::parse(text, &[], lent);
+        let is_same = expected == found;
+        (!is_same).then_some(Difference { lent, expected: Expected::Answer(expected), found })
+    })
+}
+
+fn difference_at(
+    text: &str,
+    run: &Run,
+    lent: Lent,
+    fault: Option<Fault>,
+    tally: &mut Tally,
+) -> Option<Difference> {
+    let mut expected = Answer::expected(run, lent)?;
+    if let Some(fault) = fault {
+        fault.plant_in_answer(&run.tokens, &mut expected);
+    }
     tally.add_call(expected.number);
-    let found = library::parse(text, &run.tokens, lent);
+    let found = library::parse(text.as_bytes(), &run.tokens, lent);
     let expected = Expected::Answer(expected);
     let is_same = matches!(&expected, Expected::Answer(answer) if *answer == found);
     (!is_same).then_some(Difference { lent, expected, found })
@@ -42,10 +72,10 @@ fn difference_at(text: &str, run: &Run, lent: Lengths, tally: &mut Tally) -> Opt
 
 /// Where the reference panics it must be by a known exception, and what it made before must be
 /// what the library makes first.
-fn difference_in_start(text: &str, run: &Run) -> Option<Difference> {
+fn difference_in_start(text: &str, call: Call, run: &Run) -> Option<Difference> {
     let End::Panicked(message) = &run.end else { return None };
-    let lent = plenty(run);
-    let found = library::parse(text, &run.tokens, lent);
+    let lent = call.lent_for(run, plenty(run));
+    let found = library::parse(text.as_bytes(), &run.tokens, lent);
     let mut reports = run.reports.clone();
     let wanted = match Exception::of(message) {
         None => format!("no panic: {message}"),
@@ -54,6 +84,7 @@ fn difference_in_start(text: &str, run: &Run) -> Option<Difference> {
                 reports.extend(last_backslash(run));
             }
             let goes_on = found.number == 0
+                && (call == Call::Parse || found.tokens == run.tokens)
                 && found.values.starts_with(&run.values)
                 && found.reports.starts_with(&reports);
             let is_refused = exception == Exception::Fuel && found.number == 3;
@@ -98,7 +129,10 @@ fn last_backslash(run: &Run) -> [u32; 3] {
 
 impl fmt::Display for Difference {
     fn fmt(&self, f: &mut fmt::Formatter<'_>) -> fmt::Result {
-        let Lengths { nodes, values, reports } = self.lent;
+        let Lengths { nodes, values, reports } = self.lent.rest;
+        if let Some(tokens) = self.lent.tokens {
+            writeln!(f, "  lent {tokens} token words")?;
+        }
         writeln!(f, "  lent {nodes} node, {values} value and {reports} report words")?;
         match &self.expected {
             Expected::Start(wanted) => {
@@ -107,6 +141,7 @@ impl fmt::Display for Difference {
             Expected::Answer(expected) => {
                 writeln!(f, "  expected {}", Shown(expected))?;
                 writeln!(f, "  found    {}", Shown(&self.found))?;
+                show_words(f, "token", &expected.tokens, &self.found.tokens)?;
                 show_words(f, "node", &expected.nodes, &self.found.nodes)?;
                 show_words(f, "value", &expected.values, &self.found.values)?;
                 show_words(f, "report", &expected.reports, &self.found.reports)

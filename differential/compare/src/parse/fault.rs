@@ -1,5 +1,6 @@
 //! Planted faults in the reference's answers, to show that the comparison can fail.
 
+use crate::parse::answer::Answer;
 use oracle::{End, Run, Step};
 
 const BINARY_EXPR: u32 = 15;
@@ -27,9 +28,13 @@ pub enum Fault {
     Place,
     /// What is too deep is refused one token later.
     Depth,
+    /// A refusal of parsing leaves the tokens that were lexed.
+    Kept,
+    /// The counts of value words and reports are exchanged.
+    Counts,
 }
 
-pub const FAULTS: [(&str, Fault); 9] = [
+pub const FAULTS: [(&str, Fault); 11] = [
     ("link", Fault::Link),
     ("span", Fault::Span),
     ("flag", Fault::Flag),
@@ -39,6 +44,8 @@ pub const FAULTS: [(&str, Fault); 9] = [
     ("detail", Fault::Detail),
     ("place", Fault::Place),
     ("depth", Fault::Depth),
+    ("kept", Fault::Kept),
+    ("counts", Fault::Counts),
 ];
 
 impl Fault {
@@ -63,6 +70,21 @@ impl Fault {
                     }
                 }
             }
+        }
+    }
+
+    /// The faults that show only in an answer.
+    pub fn plant_in_answer(self, tokens: &[u32], answer: &mut Answer) {
+        match (self, answer.number) {
+            (Fault::Kept, 3 | 5..) => {
+                let kept = answer.tokens.len().min(tokens.len());
+                answer.tokens[..kept].copy_from_slice(&tokens[..kept]);
+            }
+            (Fault::Counts, 0) => {
+                let last = answer.counts.len() - 1;
+                answer.counts.swap(last - 1, last);
+            }
+            _ => {}
         }
     }
 
@@ -101,6 +123,15 @@ fn turn_numbers(values: &mut [u32]) {
 #[cfg(test)]
 mod tests {
     use super::*;
+    use crate::parse::lengths::Call;
+
+    /// Those to a reading with exactly enough words, and with none for values.
+    fn answers(run: &Run) -> Vec<Answer> {
+        let need = run.need();
+        let fewer = oracle::Lengths { values: 0, ..need };
+        let lent = [need, fewer].map(|rest| Call::Read.lent_for(run, rest));
+        lent.into_iter().filter_map(|lent| Answer::expected(run, lent)).collect()
+    }
 
     #[test]
     fn each_fault_changes_something() {
@@ -113,7 +144,10 @@ mod tests {
             let run = oracle::run(text);
             let mut planted = run.clone();
             fault.plant(&mut planted);
-            assert!(planted != run, "{name}");
+            let plain = answers(&run);
+            let mut changed = answers(&planted);
+            changed.iter_mut().for_each(|answer| fault.plant_in_answer(&run.tokens, answer));
+            assert!(changed != plain, "{name}");
         }
     }
 }
