@@ -1,13 +1,13 @@
 -- What reading answers, in document 01's terms, and that its two steps come to it.
-use mathlib.Core.Path.{_≡_, refl, sym, _∙_, ap}
+use mathlib.Core.Path.{_≡_, refl, _∙_, ap}
 use mathlib.Core.Bool.{Bool, true, false, cond}
-use mathlib.Core.List.{List, [], _∷_, _++_, map}
+use mathlib.Core.List.{List, [], _∷_}
 use Prim.Native.Nat.{ℕ, _≤_}
 use native.Mathlib.Omega.{arith}
 use borrow.Author.Tests.{ltb-false}
 use lib.Dec.{ltb}
 use lib.ListN.{length, take, replicate}
-use Rattle.words.specs.Answer.{Answer, done, refused, left}
+use Rattle.words.specs.Answer.{Answer, done, refused}
 use Rattle.utf8.specs.Utf8.{checked}
 use Rattle.utf8.specs.declared.Checked.{Checked}
 use Rattle.utf8.specs.declared.Checked.the-variants.{Good, Bad}
@@ -64,7 +64,7 @@ module _ (text : List ℕ) (k n : ℕ) where
   unfolding lexed
   tokens-fit e = long (ltb longestText (length text)) e
 
--- A refusal of parsing leaves 0 in every word.
+-- What a refusal of parsing leaves is what it began with.
 refused-words : (blank m : Memory) (o : Out ℕ) (number place : ℕ) → Parser.given (Parsing.Refused number place) m ≡ parsedTo blank o → m ≡ blank
 unfolding parsedTo
 refused-words blank m (Prog.done file s m′) number place e =

@@ -16,7 +16,7 @@ enum-known-n : tie.Need-enum-known-n
 enum-known-n c = search needs
 
 parse-lexed-requires : tie.Need-parse-lexed-requires
-parse-lexed-requires c κs = let e = ap answer (sym (c .before .before .before .before .before .n .given .1)) ∙ c .before .before .before .before .before .before .before .before .before .lex .ensures .0 in omega (arith, tokens-fit (c .before .before .before .before .before .before .before .before .before .before .before .before .before .before .before .before .args .text .now) (length (c .before .before .before .before .before .before .before .before .before .before .before .before .before .before .before .before .args .tokens .now)) _ e, c .before .before .before .before .before .before .before .before .before .lex .kept .1 .0)
+parse-lexed-requires c κs = let a = c .before .before .before .before .before .before .before .before .before .before .before .before .before .before .before .before .args in let l = c .before .before .before .before .before .before .before .before .before .lex in let e = ap answer (sym (c .before .before .before .before .before .n .given .1)) ∙ l .ensures .0 in omega (arith, tokens-fit (a .text .now) (length (a .tokens .now)) _ e, l .kept .1 .0)
 
 enum-known-number : tie.Need-enum-known-number
 enum-known-number c = search needs
@@ -31,37 +31,37 @@ clear-requires-3 : tie.Need-clear-requires-3
 clear-requires-3 c κs = search needs
 
 cast-t28 : tie.Need-cast-t28
-cast-t28 c = omega (arith, place-small (c .before .before .before .before .before .before .before .before .before .before .before .before .before .before .before .before .before .before .before .before .before .before .before .before .args .text .now) (length (c .before .before .before .before .before .before .before .before .before .before .before .before .before .before .before .before .before .before .before .before .before .before .before .before .args .tokens .now)) _ _ (ap answer (sym (c .before .before .before .before .before .before .before .before .before .before .before .before .before .number .given .1)) ∙ c .before .before .before .before .before .before .before .before .before .before .before .before .before .before .before .before .before .lex .ensures .0))
+cast-t28 c = let a = c .before .before .before .before .before .before .before .before .before .before .before .before .before .before .before .before .before .before .before .before .before .before .before .before .args in omega (arith, place-small (a .text .now) (length (a .tokens .now)) _ _ (ap answer (sym (c .before .before .before .before .before .before .before .before .before .before .before .before .before .number .given .1)) ∙ c .before .before .before .before .before .before .before .before .before .before .before .before .before .before .before .before .before .lex .ensures .0))
 
 same-length : tie.Need-same-length
-same-length c = c .before .before .before .before .before .before .before .before .parse-lexed .kept .1 .0 ∙ c .before .before .before .before .before .before .before .before .before .before .before .before .before .before .before .before .before .before .lex .kept .1 .0
+same-length c = search needs
 
 same-length-2 : tie.Need-same-length-2
-same-length-2 c = c .before .before .before .before .before .before .before .before .parse-lexed .kept .1 .1 .0
+same-length-2 c = search needs
 
 same-length-3 : tie.Need-same-length-3
-same-length-3 c = c .before .before .before .before .before .before .before .before .parse-lexed .kept .1 .1 .1 .0
+same-length-3 c = search needs
 
 same-length-4 : tie.Need-same-length-4
-same-length-4 c = c .before .before .before .before .before .before .before .before .parse-lexed .kept .1 .1 .1 .1 .0
+same-length-4 c = search needs
 
 returns : tie.Need-returns
-returns c = both-clauses _ _ (lexed-done (c .before .before .before .before .before .before .before .before .before .before .before .before .before .before .before .before .before .before .before .before .before .before .before .before .before .args .text .now) (c .before .before .before .before .before .before .before .before .before .before .before .before .before .before .before .before .before .before .before .before .before .before .before .before .before .args .tokens .now) (c .before .before .before .before .before .before .before .before .before .before .before .before .before .before .before .before .before .before .lex .last .1 .0) (c .before .before .before .before .before .before .before .before .before .before .before .before .before .before .before .before .before .before .before .before .before .before .before .before .before .args .nodes .now) (c .before .before .before .before .before .before .before .before .before .before .before .before .before .before .before .before .before .before .before .before .before .before .before .before .before .args .values .now) (c .before .before .before .before .before .before .before .before .before .before .before .before .before .before .before .before .before .before .before .before .before .before .before .before .before .args .reports .now) (c .before .before .before .before .before .before .before .before .before .before .before .before .before .before .before .before .before .before .lex .kept .1 .0) (c .before .before .before .before .before .before .before .before .before .before .before .before .before .before .before .before .before .before .lex .ensures .1) _ _ (ap answer (sym (c .before .before .before .before .before .before .before .before .before .before .before .before .before .before .n .given .1)) ∙ c .before .before .before .before .before .before .before .before .before .before .before .before .before .before .before .before .before .before .lex .ensures .0) (c .before .before .before .before .before .before .before .before .parse-lexed .ensures))
+returns c = let a = c .before .before .before .before .before .before .before .before .before .before .before .before .before .before .before .before .before .before .before .before .before .before .before .before .before .args in let l = c .before .before .before .before .before .before .before .before .before .before .before .before .before .before .before .before .before .before .lex in both-clauses _ _ (lexed-done (a .text .now) (a .tokens .now) (l .last .1 .0) (a .nodes .now) (a .values .now) (a .reports .now) (l .kept .1 .0) (l .ensures .1) _ _ (ap answer (sym (c .before .before .before .before .before .before .before .before .before .before .before .before .before .before .n .given .1)) ∙ l .ensures .0) (c .before .before .before .before .before .before .before .before .parse-lexed .ensures))
 
 same-length-5 : tie.Need-same-length-5
-same-length-5 c = c .before .before .before .before .before .before .before .before .before .before .before .before .before .before .before .before .before .lex .kept .1 .0
+same-length-5 c = search needs
 
 same-length-6 : tie.Need-same-length-6
-same-length-6 c = c .before .before .before .before .before .before .before .before .before .before .clear .kept .0
+same-length-6 c = search needs
 
 same-length-7 : tie.Need-same-length-7
-same-length-7 c = c .before .before .before .before .before .before .clear2 .kept .0
+same-length-7 c = search needs
 
 same-length-8 : tie.Need-same-length-8
-same-length-8 c = c .before .before .clear3 .kept .0
+same-length-8 c = search needs
 
 returns-2 : tie.Need-returns-2
-returns-2 c = both-clauses _ _ (rw (c .before .before .before .before .before .before .before .before .before .before .clear .ensures, c .before .before .before .before .before .before .clear2 .ensures, c .before .before .clear3 .ensures) (lexed-refused (c .before .before .before .before .before .before .before .before .before .before .before .before .before .before .before .before .before .before .before .before .before .before .before .before .args .text .now) (c .before .before .before .before .before .before .before .before .before .before .before .before .before .before .before .before .before .before .before .before .before .before .before .before .args .tokens .now) (c .before .before .before .before .before .before .before .before .before .before .before .before .before .before .before .before .before .lex .last .1 .0) (c .before .before .before .before .before .before .before .before .before .before .before .before .before .before .before .before .before .before .before .before .before .before .before .before .args .nodes .now) (c .before .before .before .before .before .before .before .before .before .before .before .before .before .before .before .before .before .before .before .before .before .before .before .before .args .values .now) (c .before .before .before .before .before .before .before .before .before .before .before .before .before .before .before .before .before .before .before .before .before .before .before .before .args .reports .now) (c .before .before .before .before .before .before .before .before .before .before .before .before .before .before .before .before .before .lex .kept .1 .0) (c .before .before .before .before .before .before .before .before .before .before .before .before .before .before .before .before .before .lex .ensures .1) _ _ (ap answer (sym (c .before .before .before .before .before .before .before .before .before .before .before .before .before .number .given .1)) ∙ c .before .before .before .before .before .before .before .before .before .before .before .before .before .before .before .before .before .lex .ensures .0)))
+returns-2 c = let a = c .before .before .before .before .before .before .before .before .before .before .before .before .before .before .before .before .before .before .before .before .before .before .before .before .args in let l = c .before .before .before .before .before .before .before .before .before .before .before .before .before .before .before .before .before .lex in both-clauses _ _ (rw (c .before .before .before .before .before .before .before .before .before .before .clear .ensures, c .before .before .before .before .before .before .clear2 .ensures, c .before .before .clear3 .ensures) (lexed-refused (a .text .now) (a .tokens .now) (l .last .1 .0) (a .nodes .now) (a .values .now) (a .reports .now) (l .kept .1 .0) (l .ensures .1) _ _ (ap answer (sym (c .before .before .before .before .before .before .before .before .before .before .before .before .before .number .given .1)) ∙ l .ensures .0)))
 
 pub read-spec : {M : Type 1} → statement M
 read-spec =
