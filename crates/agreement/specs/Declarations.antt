@@ -27,89 +27,13 @@ use Rattle.chart.specs.Tree.{Tree, Trees, flags, node, none, _▸_, _⊕_, bran
 use Rattle.chart.specs.Parser.{Outcome, if, on, bind, nothing, failed, goesOn, readPath, readItem, readItems, readImport, readDeclaration, readDeclarations, readFile}
 use Rattle.chart.specs.Parser as Chart
 use Rattle.agreement.specs.Run.{run, turns}
-use Rattle.agreement.specs.Sim.{Sim, gives, fails, sinks, Made, made, mapped, call, Setting, runs, lexemeOf, cost, Ahead, Fits, Taken, peek-rule, pass-rule, eat-rule, check-rule, eof-rule, eof-either, expect-rule, expect-hit, expect-miss, unexpected-rule}
-use Rattle.agreement.specs.Steps.{isFlagged, flagged, Open, Done, Agrees, alloc-rule, alloc-here, push-rule, close-branch, update-rule, expr-rule, block-rule}
+use Rattle.agreement.specs.Sim.{Sim, gives, fails, sinks, Made, made, mapped, call, Setting, runs, lexemeOf, cost, Ahead, Fits, Taken, peek-rule, pass-rule, eat-rule, check-rule, eof-rule, eof-either, expect-rule, expect-hit, expect-miss, recover-rule, unexpected-rule}
+use Rattle.agreement.specs.Outcomes.{on-same, on-none, on-first, begins-other, on-alike, on-swap, bind-on, bind-alike, bind-bind}
+use Rattle.agreement.specs.Steps.{isFlagged, flagged, Open, Done, Agrees, alloc-rule, alloc-here, push-rule, close-branch, update-rule, expr-rule, block-rule, One, one, call-one}
 use Rattle.agreement.specs.Closing.{around-rule}
 use Rattle.agreement.specs.Leaves.{expect-ident-rule}
 use Rattle.tree.specs.Stored.{isName}
 use Rattle.tree.specs.Grown.{size, ⊕-assoc, ⊕-none, Built, opened, closed, waits, adopt, push, ended}
-
--- ---- laws of the chart's steps
-
--- The same on a token and without it.
-on-same : (K : ℕ) (xs : List RowToken) (o : Outcome) → on K xs (λ _ _. o) o ≡ o
-unfolding on if
-on-same K [] o = refl
-on-same K (token k v ∷ xs) o = go (eqb k K)
-  where
-    go : (b : Bool) → if b o o ≡ o
-    go true = refl
-    go false = refl
-
--- Another token begins the row.
-on-none : (K : ℕ) (xs : List RowToken) (h : Lexeme → List RowToken → Outcome) (m : Outcome) → begins K xs ≡ false → on K xs h m ≡ m
-unfolding on if begins
-on-none K [] h m e = refl
-on-none K (token k v ∷ xs) h m e = rw e refl
-
--- That token begins it.
-on-first : (K : ℕ) (xs : List RowToken) (h : Lexeme → List RowToken → Outcome) (m : Outcome) {v : Lexeme} {ys : List RowToken} → xs ≡ token K v ∷ ys → on K xs h m ≡ h v ys
-unfolding on if
-on-first K xs h m e = rw (e, eq-eqb K K refl) refl
-
--- A row begins with one kind.
-begins-other : (K L : ℕ) → eqb K L ≡ false → (xs : List RowToken) → begins K xs ≡ true → begins L xs ≡ false
-unfolding begins
-begins-other K L n [] e = absurd (true≢false (sym e))
-begins-other K L n (token k v ∷ xs) e = let z : k ≡ K = eqb-true k K e in ap (λ (i : ℕ). eqb i L) z ∙ n
-
--- What is done with the token, and without it, is exchanged.
-on-alike : (K : ℕ) (xs : List RowToken) (h g : Lexeme → List RowToken → Outcome) (m n : Outcome) → ((v : Lexeme) (ys : List RowToken) → xs ≡ token K v ∷ ys → h v ys ≡ g v ys) → (begins K xs ≡ false → m ≡ n) → on K xs h m ≡ on K xs g n
-unfolding on if begins
-on-alike K [] h g m n a b = b refl
-on-alike K (token k v ∷ xs) h g m n a b = go (eqb k K) refl
-  where
-    go : (t : Bool) → eqb k K ≡ t → if t (h v xs) m ≡ if t (g v xs) n
-    go true e = let q : k ≡ K = eqb-true k K e in a v xs (rw q refl)
-    go false e = b e
-
--- Two tokens may be asked for in either order.
-on-swap : (K L : ℕ) → eqb K L ≡ false → (xs : List RowToken) (h g : Lexeme → List RowToken → Outcome) (m : Outcome) → on K xs h (on L xs g m) ≡ on L xs g (on K xs h m)
-unfolding on if
-on-swap K L n [] h g m = refl
-on-swap K L n (token k v ∷ xs) h g m = go (eqb k K) (eqb k L) refl refl
-  where
-    go : (a b : Bool) → eqb k K ≡ a → eqb k L ≡ b → if a (h v xs) (if b (g v xs) m) ≡ if b (g v xs) (if a (h v xs) m)
-    go true true e q = let z : k ≡ K = eqb-true k K e in absurd (true≢false (sym q ∙ (ap (λ (i : ℕ). eqb i L) z ∙ n)))
-    go true false e q = refl
-    go false true e q = refl
-    go false false e q = refl
-
--- What comes after is done on the token and without it.
-bind-on : (K : ℕ) (xs : List RowToken) (h : Lexeme → List RowToken → Outcome) (m : Outcome) (c : Trees → List RowToken → Outcome) → bind (on K xs h m) c ≡ on K xs (λ v ys. bind (h v ys) c) (bind m c)
-unfolding on if
-bind-on K [] h m c = refl
-bind-on K (token k v ∷ xs) h m c = go (eqb k K)
-  where
-    go : (b : Bool) → bind (if b (h v xs) m) c ≡ if b (bind (h v xs) c) (bind m c)
-    go true = refl
-    go false = refl
-
--- What comes after is exchanged.
-bind-alike : (o : Outcome) (c d : Trees → List RowToken → Outcome) → ((t : Trees) (ys : List RowToken) → c t ys ≡ d t ys) → bind o c ≡ bind o d
-unfolding bind
-bind-alike (Chart.ok t ys) c d h = h t ys
-bind-alike nothing c d h = refl
-bind-alike failed c d h = refl
-bind-alike Chart.deep c d h = refl
-
--- What comes after is grouped anew.
-bind-bind : (o : Outcome) (c d : Trees → List RowToken → Outcome) → bind (bind o c) d ≡ bind o (λ t ys. bind (c t ys) d)
-unfolding bind
-bind-bind (Chart.ok t ys) c d = refl
-bind-bind nothing c d = refl
-bind-bind failed c d = refl
-bind-bind Chart.deep c d = refl
 
 -- An item of a group, and what comes after it.
 item-is : (xs : List RowToken) (c : Trees → List RowToken → Outcome)
@@ -239,16 +163,7 @@ module _ (s : Setting) where
   recovery-rule : {B : Type 0} {P : B → World → Outcome → Type 0} (w : World) (k : Bool → World → Fate B) (recovery : List ℕ) {K : ℕ} {xs : List RowToken} (h : Lexeme → List RowToken → Outcome) → eqb Token.Eof K ≡ false → Fits s w xs
       → ((j : ℕ) (row : List Seen) (ys : List RowToken) → Taken s K w xs j row ys → Sim P (k true (moveTo (suc j) row w)) (h (lexemeOf s j) ys))
       → Sim P (runs s (expectCheckRecovery K recovery) w k) (on K xs h failed)
-  unfolding run expectCheckRecovery
-  recovery-rule {B} {P} w k recovery {K} {xs} h n f hit =
-      eat-rule s w _ h n f hit (λ _ i. peek-rule s (moveTo i (w .row) w) kept f (λ i₁ e. go i₁ (contains recovery Token.Eof && ltb 0 i₁)) (λ j kind ys e ne. go j (contains recovery kind && ltb 0 j)))
-    where
-      kept : ℕ → World → Fate B
-      kept kind u = elim (contains recovery kind && ltb 0 (u .at)) [ true ↦ fail | false ↦ runs s emitUnexpected u (λ _ v. k false v) ]
-
-      go : (i : ℕ) (b : Bool) → Sim P (elim b [ true ↦ fail | false ↦ runs s emitUnexpected (moveTo i (w .row) w) (λ _ v. k false v) ]) failed
-      go i true = fails
-      go i false = unexpected-rule s (moveTo i (w .row) w) _ f
+  recovery-rule w k recovery h n f hit = recover-rule s w k recovery h n f hit (λ _. refl)
 
   module _ {B : Type 0} {P : B → World → Outcome → Type 0} where
     -- `eat`, `check` and `expect` beside one outcome for both cases.
@@ -292,10 +207,6 @@ module _ (s : Setting) where
     peek-over : (w : World) (k : World → Fate B) {xs : List RowToken} {o : Outcome} → Fits s w xs → ((i : ℕ) → Sim P (k (moveTo i (w .row) w)) o) → Sim P (runs s peek w (λ _ u. k u)) o
     peek-over w k f h = peek-rule s w (λ _ u. k u) f (λ i e. h i) (λ j kind ys e n. h j)
 
-  -- A node that stands for what was read.
-  abbrev pub Whole : World → List RowToken → ℕ → World → Trees → List RowToken → Type 0
-  Whole w xs n u ts ys = (t : Tree) × (ts ≡ t ▸ none) × Done s w u n t × Fits s u ys × (length ys < length xs)
-
 module _ (s : Setting) (a : Agrees s) where
   -- ---- constants
 
@@ -304,7 +215,7 @@ module _ (s : Setting) (a : Agrees s) where
   constEnd x = Then (expectCheckRecovery Token.Equals constDefExprRecovery) (λ _. Then (parseExpr AllowAll) (λ n. Then (pushChild x n) (λ y. Then (expectCheckRecovery Token.Semicolon constDefExprRecovery) (λ _. closeNode y))))
 
   const-end : (w u : World) (x : Unfinished) (payload : ℕ) (ts : Trees) (xs zs : List RowToken) → isFlagged Node.ConstDecl payload ≡ true → Open s w u x (nodeHead Node.ConstDecl payload) 0 ts → Fits s u xs → length xs ≤ length zs
-      → Sim (Made (Whole s w zs)) (runs s (constEnd x) u ok)
+      → Sim (Made (One s w zs)) (runs s (constEnd x) u ok)
       (on Token.Equals xs (λ _ qs. bind (s .rows .expr true 0 qs) (λ t rs. on Token.Semicolon rs (λ _ ss. Chart.ok (branch Node.ConstDecl payload (ts ⊕ t)) ss) failed)) failed)
   unfolding run branch
   const-end w u x payload ts xs zs e o f l =
@@ -313,11 +224,11 @@ module _ (s : Setting) (a : Agrees s) where
       push-rule s w (moveTo (suc j) row u) v _ x n o d f₁ (λ y z o₁ f₂.
       recovery-rule s z _ constDefExprRecovery _ refl f₂ (λ j₁ row₁ ss t₂.
       close-branch s w (moveTo (suc j₁) row₁ z) ok y o₁ e (t₂ .fit) (λ m q d₁ f₃.
-      gives (made (_, refl, d₁, f₃, omega (arith, t .shorter, t₂ .shorter))))))))
+      gives (made (one d₁ f₃ (omega (arith, t .shorter, t₂ .shorter)))))))))
 
   -- A constant from after `const` on.
   pub const-rule : (w : World) (start : ℕ) (xs : List RowToken) → Fits s w xs
-      → Sim (Made (Whole s w xs)) (runs s (parseConstDecl start) w ok)
+      → Sim (Made (One s w xs)) (runs s (parseConstDecl start) w ok)
       (on Token.Identifier xs (λ v zs.
       on Token.Colon zs (λ _ ws. bind (s .rows .expr true 0 ws) (λ q vs. on Token.Equals vs (λ _ qs. bind (s .rows .expr true 0 qs) (λ t rs. on Token.Semicolon rs (λ _ ss. Chart.ok (branch Node.ConstDecl Flag.ConstDecl-typed (named v ⊕ (q ⊕ t))) ss) failed)) failed))
       (on Token.Equals zs (λ _ qs. bind (s .rows .expr true 0 qs) (λ t rs. on Token.Semicolon rs (λ _ ss. Chart.ok (branch Node.ConstDecl 0 (named v ⊕ t)) ss) failed)) failed)) failed)
@@ -420,8 +331,8 @@ module _ (s : Setting) (a : Agrees s) where
         → ((y : Unfinished) (j : ℕ) (z : World) (us : Trees) (ys : List RowToken) → 2 ≤ j → Open s w z y h 0 (ts ⊕ us) → Fits s z ys → length ys < length xs → Sim P (k (counted y j .list) z) (c us ys))
         → Sim P (turns groupTurn n (counted x 0) u (λ d v. runs s (expect Token.RightCurly) v (λ _ z. k (d .list) z))) (firstItem xs c)
     unfolding turns _⊕_
-    group-first k zero w u x h ts xs c l o f nil one goes = absurd (omega arith)
-    group-first k (suc n) w u x h ts xs c l o f nil one goes =
+    group-first k zero w u x h ts xs c l o f nil lone goes = absurd (omega arith)
+    group-first k (suc n) w u x h ts xs c l o f nil lone goes =
         subst (λ r. Sim P (turns groupTurn (suc n) (counted x 0) u (λ d v. runs s (expect Token.RightCurly) v (λ _ z. k (d .list) z))) r) (item-end xs _)
         (group-turn w u _ x 0 h ts xs (λ _. failed) _ o f
         (λ t ys q. on-none Token.Comma ys _ failed (begins-other Token.DoubleColon Token.Comma refl ys q))
@@ -430,21 +341,21 @@ module _ (s : Setting) (a : Agrees s) where
         (λ y z t ys o₁ f₁ l₁. eat-rule s z _ _ refl f₁
         (λ j row qs q. subst (λ r. Sim P (turns groupTurn n (counted y 1) (moveTo (suc j) row z) (λ d v. runs s (expect Token.RightCurly) v (λ _ z. k (d .list) z))) r) (items-end (length qs) qs _)
         (group-turns k n (suc (length qs)) w (moveTo (suc j) row z) y 1 h (ts ⊕ (t ▸ none)) qs (λ _. failed) (λ us rs. c (t ▸ us) rs) (omega (arith, q .shorter)) (omega arith) (omega arith) o₁ (q .fit)
-        (λ v ws o₂ f₂ l₃. one y v)
+        (λ v ws o₂ f₂ l₃. lone y v)
         (λ y₁ b v us ws p₁ o₂ f₂ l₃. goes y₁ b v (t ▸ us) ws p₁ (rw (← ⊕-assoc ts (t ▸ none) us) o₂) f₂ (omega (arith, q .shorter)))))
-        (λ _ j. expect-fails s (moveTo j (z .row) z) _ Token.RightCurly ys refl f₁ (λ j₁ row zs q. one y (moveTo (suc j₁) row z)))))
+        (λ _ j. expect-fails s (moveTo j (z .row) z) _ Token.RightCurly ys refl f₁ (λ j₁ row zs q. lone y (moveTo (suc j₁) row z)))))
 
   -- What comes after a path that no glob or group ended.
   abbrev pathEnd : ℕ → Bool → Unfinished → Prog ℕ
   pathEnd start public x = Then (eat Token.Semicolon) (λ b. Branch b (closeNode x) (importAs start public x))
 
   path-end : (w u : World) (start : ℕ) (p : Bool) (x : Unfinished) (ts : Trees) (xs ys : List RowToken) → 0 < length (w .store) → length ys < length xs → Open s w u x (nodeHead Node.ImportDecl (flag p Flag.ImportDecl-public)) 0 ts → Fits s u ys
-      → Sim (Made (Whole s w xs)) (runs s (pathEnd start p x) u ok)
+      → Sim (Made (One s w xs)) (runs s (pathEnd start p x) u ok)
       (on Token.Semicolon ys (λ _ zs. Chart.ok (branch Node.ImportDecl (flag p Flag.ImportDecl-public) ts) zs) (on Token.As ys (λ _ zs. renamed p ts zs) failed))
   unfolding run importAs branch flag _⊕_ isFlagged isName
   path-end w u start p x ts xs ys born l o f =
       eat-rule s u _ _ refl f
-      (λ j row zs t. close-branch s w (moveTo (suc j) row u) ok x o (plain-flagged p) (t .fit) (λ n z d f₁. gives (made (_, refl, d, f₁, omega (arith, t .shorter)))))
+      (λ j row zs t. close-branch s w (moveTo (suc j) row u) ok x o (plain-flagged p) (t .fit) (λ n z d f₁. gives (made (one d f₁ (omega (arith, t .shorter))))))
       (λ _ i. update-rule s w (moveTo i (u .row) u) _ x Node.ImportPath 0 o f (λ u₁ o₁ f₁.
       close-branch s w u₁ _ x o₁ refl f₁ (λ n u₂ d f₂.
       around-rule s w u₂ _ start Node.ImportAsDecl (flag p Flag.ImportAsDecl-public) n born d f₂ (λ y u₃ o₃ f₃.
@@ -453,19 +364,19 @@ module _ (s : Setting) (a : Agrees s) where
       push-rule s w (moveTo (suc j) row u₃) v _ y m o₃ d₁ f₄ (λ y₁ u₄ o₄ f₅.
       expect-rule s u₄ _ _ refl f₅ (λ j₁ row₁ vs t₁.
       close-branch s w (moveTo (suc j₁) row₁ u₄) ok y₁ o₄ (as-flagged p) (t₁ .fit) (λ n₁ z d₂ f₆.
-      gives (made (_, refl, d₂, f₆, omega (arith, t .shorter, t₁ .shorter))))))))))))
+      gives (made (one d₂ f₆ (omega (arith, t .shorter, t₁ .shorter)))))))))))))
 
   -- A group, its `{` ahead.
   group-rule : (w u : World) (p : Bool) (x : Unfinished) (ts : Trees) (xs ys ws : List RowToken) {v : Lexeme} → length ys < length xs → Open s w u x (nodeHead Node.ImportGroupDecl (flag p Flag.ImportGroupDecl-public)) 0 ts → Fits s u ys → ys ≡ token Token.LeftCurly v ∷ ws
-      → Sim (Made (Whole s w xs)) (runs s (parseImportGroup x) u ok) (grouped p ts ws)
+      → Sim (Made (One s w xs)) (runs s (parseImportGroup x) u ok) (grouped p ts ws)
   unfolding run parseImportGroup parseDelimited branch
   group-rule w u p x ts xs ys ws l o f e =
       peek-over s u _ f (λ i. expect-hit s (moveTo i (u .row) u) _ f e (λ j row t.
       group-first closes (s .bound) w (moveTo (suc j) row u) x _ ts ws (groupedOn p ts) (t .fit .few) o (t .fit) (λ z. fails) (λ y z. fails) (λ y b z us vs b₁ o₁ f₁ l₁.
       clear (eqb b 0) (eqb b 1) (ne-eqb b 0 (omega arith)) (ne-eqb b 1 (omega arith)) (expect-rule s z _ _ refl f₁ (λ j₁ row₁ qs t₁.
-      close-branch s w (moveTo (suc j₁) row₁ z) ok y o₁ (group-flagged p) (t₁ .fit) (λ n z₁ d f₂. gives (made (_, refl, d, f₂, omega (arith, t .shorter, t₁ .shorter)))))))))
+      close-branch s w (moveTo (suc j₁) row₁ z) ok y o₁ (group-flagged p) (t₁ .fit) (λ n z₁ d f₂. gives (made (one d f₂ (omega (arith, t .shorter, t₁ .shorter))))))))))
     where
-      clear : {v : Fate ℕ} {r : Outcome} (b d : Bool) → b ≡ false → d ≡ false → Sim (Made (Whole s w xs)) v r → Sim (Made (Whole s w xs)) (elim b [ true ↦ fail | false ↦ elim d [ true ↦ fail | false ↦ v ] ]) r
+      clear : {v : Fate ℕ} {r : Outcome} (b d : Bool) → b ≡ false → d ≡ false → Sim (Made (One s w xs)) v r → Sim (Made (One s w xs)) (elim b [ true ↦ fail | false ↦ elim d [ true ↦ fail | false ↦ v ] ]) r
       clear true d q r h = absurd (true≢false q)
       clear false true q r h = absurd (true≢false r)
       clear false false q r h = h
@@ -483,7 +394,7 @@ module _ (s : Setting) (a : Agrees s) where
   -- The loop of an import, after a name.
   import-turns : (start : ℕ) (p : Bool) (n m : ℕ) (w u : World) (x : Unfinished) (ts : Trees) (xs ys : List RowToken) (c : Trees → List RowToken → Outcome) → length ys < n → length ys < m → length ys < length xs → 0 < length (w .store)
       → Open s w u x (nodeHead Node.ImportDecl (flag p Flag.ImportDecl-public)) 0 ts → Fits s u ys → ((t : Trees) (ws : List RowToken) → c t ws ≡ importOn p (ts ⊕ t) ws)
-      → Sim (Made (Whole s w xs)) (turns (λ q v j. runs s (importTurn p q) v j) n (record { path = x; whole = Option.none }) u (λ q v. runs s (importEnd start p q) v ok)) (pathOn m ys c)
+      → Sim (Made (One s w xs)) (turns (λ q v j. runs s (importTurn p q) v j) n (record { path = x; whole = Option.none }) u (λ q v. runs s (importEnd start p q) v ok)) (pathOn m ys c)
   unfolding run turns importTurn globImport groupImport flag branch
   import-turns start p zero m w u x ts xs ys c l l₁ l₂ born o f h = absurd (omega arith)
   import-turns start p (suc n) zero w u x ts xs ys c l l₁ l₂ born o f h = absurd (omega arith)
@@ -492,7 +403,7 @@ module _ (s : Setting) (a : Agrees s) where
       (λ j row zs t. eat-rule s (moveTo (suc j) row u) _ _ refl (t .fit)
       (λ j₁ row₁ ws t₁. update-rule s w (moveTo (suc j₁) row₁ u) _ x Node.ImportDecl (flag p Flag.ImportDecl-public + Flag.ImportDecl-glob) o (t₁ .fit) (λ u₁ o₁ f₁.
       expect-rule s u₁ _ _ refl f₁ (λ j₂ row₂ vs t₂.
-      close-branch s w (moveTo (suc j₂) row₂ u₁) ok x o₁ (glob-flagged p) (t₂ .fit) (λ b z d f₂. gives (made (_, refl, d, f₂, omega (arith, t .shorter, t₁ .shorter, t₂ .shorter)))))))
+      close-branch s w (moveTo (suc j₂) row₂ u₁) ok x o₁ (glob-flagged p) (t₂ .fit) (λ b z d f₂. gives (made (one d f₂ (omega (arith, t .shorter, t₁ .shorter, t₂ .shorter))))))))
       (λ _ i. check-rule s (moveTo i row u) _ _ refl (t .fit)
       (λ j₁ ws e. update-rule s w (moveTo j₁ row u) _ x Node.ImportGroupDecl (flag p Flag.ImportGroupDecl-public) o (t .fit) (λ u₁ o₁ f₁.
       group-rule w u₁ p x ts xs zs ws (omega (arith, t .shorter)) o₁ f₁ e))
@@ -502,7 +413,7 @@ module _ (s : Setting) (a : Agrees s) where
       (λ _ i. path-end w (moveTo i (u .row) u) start p x ts xs ys born l₂ o f))
 
   -- An import from after `use` on.
-  pub import-rule : (w : World) (start : ℕ) (p : Bool) (xs : List RowToken) → Fits s w xs → Sim (Made (Whole s w xs)) (runs s (parseImportDecl start p) w ok) (readImport p xs)
+  pub import-rule : (w : World) (start : ℕ) (p : Bool) (xs : List RowToken) → Fits s w xs → Sim (Made (One s w xs)) (runs s (parseImportDecl start p) w ok) (readImport p xs)
   unfolding run parseImportDecl flag _⊕_
   import-rule w start p xs f =
       rw (import-is p xs) (alloc-rule s w _ start Node.ImportDecl (flag p Flag.ImportDecl-public) f (λ x u o f₁.
@@ -513,19 +424,19 @@ module _ (s : Setting) (a : Agrees s) where
   -- ---- declarations and the file
 
   -- What was read after a token.
-  after : (w : World) (j : ℕ) (row : List Seen) (xs ys : List RowToken) {f : Fate ℕ} {o : Outcome} → length ys < length xs → Sim (Made (Whole s (moveTo j row w) ys)) f o → Sim (Made (Whole s w xs)) f o
-  after w j row xs ys l (gives (made (t, r, d, f, m))) = gives (made (t, r, d, f, omega (arith, l, m)))
+  after : (w : World) (j : ℕ) (row : List Seen) (xs ys : List RowToken) {f : Fate ℕ} {o : Outcome} → length ys < length xs → Sim (Made (One s (moveTo j row w) ys)) f o → Sim (Made (One s w xs)) f o
+  after w j row xs ys l (gives (made (one d f m))) = gives (made (one d f (omega (arith, l, m))))
   after w j row xs ys l fails = fails
   after w j row xs ys l sinks = sinks
 
   -- A declaration.
-  pub decl-rule : (w : World) (xs : List RowToken) → Fits s w xs → Sim (Made (Whole s w xs)) (runs s parseDecl w ok) (readDeclaration (s .rows) xs)
+  pub decl-rule : (w : World) (xs : List RowToken) → Fits s w xs → Sim (Made (One s w xs)) (runs s parseDecl w ok) (readDeclaration (s .rows) xs)
   unfolding run parseDecl noDecl readDeclaration branch isFlagged isName
   decl-rule w xs f =
       eat-rule s w _ _ refl f
-      (λ j row ys t. block-rule s a (moveTo (suc j) row w) ok _ (w .at) Node.InitBlock refl (t .fit) (λ n u ts zs d f₁ l. gives (made (_, refl, d, f₁, omega (arith, t .shorter)))))
+      (λ j row ys t. block-rule s a (moveTo (suc j) row w) ok _ (w .at) Node.InitBlock refl (t .fit) (λ n u ts zs d f₁ l. gives (made (one d f₁ (omega (arith, t .shorter))))))
       (λ _ i. eat-rule s (moveTo i (w .row) w) _ _ refl f
-      (λ j row ys t. block-rule s a (moveTo (suc j) row w) ok _ (w .at) Node.RunBlock refl (t .fit) (λ n u ts zs d f₁ l. gives (made (_, refl, d, f₁, omega (arith, t .shorter)))))
+      (λ j row ys t. block-rule s a (moveTo (suc j) row w) ok _ (w .at) Node.RunBlock refl (t .fit) (λ n u ts zs d f₁ l. gives (made (one d f₁ (omega (arith, t .shorter))))))
       (λ _ i. eat-rule s (moveTo i (w .row) w) _ _ refl f
       (λ j row ys t. after w (suc j) row xs ys (t .shorter) (const-rule (moveTo (suc j) row w) (w .at) ys (t .fit)))
       (λ _ i. eat-rule s (moveTo i (w .row) w) _ _ refl f
@@ -546,10 +457,10 @@ module _ (s : Setting) (a : Agrees s) where
       eof-rule s u _ f (λ q i. gives (made (e, rw (⊕-none ts) o, f, refl))) (λ j kind ys q. absurd (let z : _≡_ {A = ℕ} 0 1 = cc in omega arith))
   decl-turns (suc n) (suc m) w u x h ts (first ∷ xs) l l₁ e o f =
       eof-rule s u _ f (λ q i. absurd (let z : _≡_ {A = ℕ} 0 1 = cc in omega arith)) (λ j kind ys q.
-      call s parseDecl (moveTo j (u .row) u) _ _ (decl-rule (moveTo j (u .row) u) (first ∷ xs) f) (λ c v us zs r.
-      rw (r .1) (push-same s w u v _ x c o (r .2) (r .3) (λ y z q₁ o₁ f₁.
-      mapped (λ us. r .0 ▸ us) (decl-turns n m w z y h (ts ⊕ (r .0 ▸ none)) zs (omega (arith, r .4)) (omega (arith, r .4)) (q₁ ∙ e) o₁ f₁)
-      (λ b v us ws p. (p .0, rw (← ⊕-assoc ts (r .0 ▸ none) us) (p .1), p .2, p .3))))))
+      call-one s parseDecl (moveTo j (u .row) u) _ _ (decl-rule (moveTo j (u .row) u) (first ∷ xs) f) (λ c v t zs d f₂ l₂.
+      push-same s w u v _ x c o d f₂ (λ y z q₁ o₁ f₁.
+      mapped (λ us. t ▸ us) (decl-turns n m w z y h (ts ⊕ (t ▸ none)) zs (omega arith) (omega arith) (q₁ ∙ e) o₁ f₁)
+      (λ b v us ws p. (p .0, rw (← ⊕-assoc ts (t ▸ none) us) (p .1), p .2, p .3)))))
 
   -- The file, from an empty store on.
   pub file-rule : (w : World) (xs : List RowToken) → w .store ≡ [] → w .values ≡ [] → w .sane ≡ true → Ahead s (w .row) xs → cost xs < 2 ^ 26 → length xs < s .bound

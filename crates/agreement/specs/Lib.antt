@@ -1,5 +1,6 @@
 pub mod Run
 pub mod Sim
+pub mod Outcomes
 pub mod Literals
 pub mod Steps
 pub mod Leaves

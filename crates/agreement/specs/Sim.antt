@@ -1,10 +1,10 @@
 -- The abstract run beside the parser of rows (`Parser`, crate chart): what it is that they agree, and the steps that look at tokens.
 use mathlib.Core.Path.{_≡_, refl, sym, _∙_, ap, subst}
-use mathlib.Core.Bool.{Bool, true, false, true≢false}
+use mathlib.Core.Bool.{Bool, true, false, _&&_, true≢false}
 use mathlib.Core.List.{List, [], _∷_}
 use Prim.Native.Nat.{ℕ, zero, suc, _+_, _<_, _≤_, _^_}
 use native.Mathlib.Omega.{arith}
-use lib.Dec.{eqb}
+use lib.Dec.{eqb, ltb}
 use borrow.Author.Tests.{eqb-true, eq-eqb}
 use lib.ListN.{length}
 use Rattle.words.specs.Token
@@ -12,8 +12,9 @@ use Rattle.words.specs.Token.{lexError}
 use Rattle.words.specs.declared.token.LexError.the-variants.{Nothing}
 use Rattle.words.specs.Words.{tokenKind}
 use Rattle.literals.specs.Spelling.{wordAt}
-use Rattle.definition.specs.Prog.{Turn, Prog, peek, pass}
-use Rattle.definition.specs.Tokens.{check, eat, eof, emitUnexpected, expect}
+use Rattle.words.specs.Report
+use Rattle.definition.specs.Prog.{Turn, Prog, Then, Branch, peek, pass, before, emitAndMark}
+use Rattle.definition.specs.Tokens.{contains, check, eat, eof, emitUnexpected, expect, expectCheckRecovery}
 use Rattle.definition.specs.Abstract.{Seen, good, bad, stray, Node, World, Fate, ok, fail, deep, bindA, moveTo, kindA, passA, skipA, ReadersA, evalA}
 use Rattle.chart.specs.Row.{Lexeme, RowToken, token, begins}
 use Rattle.chart.specs.Tree.{Trees}
@@ -282,3 +283,19 @@ module _ (s : Setting) where
         → ((i : ℕ) → Sim P (k false (moveTo i (w .row) w)) o) → Sim P (runs s (eat K) w k) o
     unfolding run eat
     eat-miss w k K n f e h = check-miss w _ K n f e h
+
+    -- `expect_check_recovery`: a report, where the token is not there.
+    pub recover-rule : (w : World) (k : Bool → World → Fate B) {K : ℕ} (recovery : List ℕ) {xs : List RowToken} (h : Lexeme → List RowToken → Outcome) {m : Outcome} → eqb Token.Eof K ≡ false → Fits w xs
+        → ((j : ℕ) (row : List Seen) (ys : List RowToken) → Taken K w xs j row ys → Sim P (k true (moveTo (suc j) row w)) (h (lexemeOf s j) ys))
+        → (begins K xs ≡ false → m ≡ failed)
+        → Sim P (runs s (expectCheckRecovery K recovery) w k) (on K xs h m)
+    unfolding run expectCheckRecovery
+    recover-rule w k {K} recovery h n f hit miss =
+        eat-rule w _ h n f hit (λ e i. rw (miss e)
+        (peek-rule (moveTo i (w .row) w) (λ next u. runs s (Branch (contains recovery next && ltb 0 (u .at)) (Then before (λ place. emitAndMark Report.MissingToken K place)) emitUnexpected) u (λ _ v. k false v)) f
+        (λ i₁ e₁. either i₁ (contains recovery Token.Eof && ltb 0 i₁))
+        (λ j kind ys e₁ e₂. either j (contains recovery kind && ltb 0 j))))
+      where
+        either : (i : ℕ) (b : Bool) → Sim P (runs s (Branch b (Then before (λ place. emitAndMark Report.MissingToken K place)) emitUnexpected) (moveTo i (w .row) w) (λ _ v. k false v)) failed
+        either i true = fails
+        either i false = unexpected-rule (moveTo i (w .row) w) _ f

@@ -30,7 +30,7 @@ use Rattle.chart.specs.Parser as Chart
 use Rattle.chart.specs.Parser.{Outcome, if, on, bind, failed, readBindingName, readBinding, readExpression, readComptime, readStatement, readStatements, readBlock, push}
 use Rattle.agreement.specs.Run.{run, run-is, run-ok, turns}
 use Rattle.agreement.specs.Sim.{Sim, gives, fails, sinks, Made, made, Setting, runs, Fits, eat-rule, check-rule, check-hit, check-miss, eof-rule, eof-either, expect-rule, expect-hit, expect-miss, unexpected-rule}
-use Rattle.agreement.specs.Steps.{Ranked, Found, found, not-found, isFlagged, flagged, rootKind, isOdd, Open, Done, Agrees, both, Blocked, One, one, call-one, alloc-rule, alloc-here, push-rule, close-branch, update-rule, expr-rule, block-rule, here-rule}
+use Rattle.agreement.specs.Steps.{Ranked, Found, found, not-found, isFlagged, flagged, rootKind, isOdd, Open, Done, Agrees, both, Blocked, One, one, call-one, alloc-rule, alloc-here, push-rule, close-branch, update-rule, expr-rule, block-rule, here-rule, no-priority}
 use Rattle.agreement.specs.Leaves.{expect-ident-rule}
 use Rattle.tree.specs.Stored.{said, isName}
 use Rattle.tree.specs.Grown.{size, ⊕-assoc, ⊕-none, Is, is, Old, Says, is-kept, are-kept, Built, Growing, Waiting, ahead, opened, ended, wait-ended, waits, waits-on, adopt}
@@ -96,10 +96,6 @@ semi-same kind v ts us e = go (eqb kind Node.ComptimeBlock) (eqb kind Node.Error
     go false false false true f q = refl
     go false false false false true q = refl
     go false false false false false q = refl
-
--- Any expression, in both.
-no-priority : Ranked 0 0
-no-priority = record { below = refl; same = λ j. rw (le-leb 0 j (omega arith), le-ltb (2 * j + 1) 0 (omega arith)) }
 
 module _ (s : Setting) where
   -- A tree that waits to be linked to an open node.

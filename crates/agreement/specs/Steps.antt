@@ -67,6 +67,10 @@ pub record Ranked (min level : ℕ) : Type 0 where
   pub below : ltb min 21 ≡ true
   pub same : (j : ℕ) → ltb (2 * j + 1) min ≡ not (leb level j)
 
+-- Any expression, in both.
+pub no-priority : Ranked 0 0
+no-priority = record { below = refl; same = λ j. rw (le-leb 0 j (omega arith), le-ltb (2 * j + 1) 0 (omega arith)) }
+
 pub both : (a b : Bool) → a ≡ true → b ≡ true → (a && b) ≡ true
 both a b e f = rw (e, f)
 
@@ -179,9 +183,6 @@ module _ (s : Setting) where
     pub few : length (s .tokens) ≤ 2 ^ 26
     pub exprs : (mode : Mode) (min level : ℕ) (w : World) (xs : List RowToken) → Ranked min level → Fits s w xs → Sim (Found w xs) (s .readers .expr mode min w) (s .rows .expr (allowsStructLiteral mode) level xs)
     pub blocks : (start kind : ℕ) (w : World) (xs : List RowToken) → isFlagged kind 0 ≡ true → Fits s w xs → Sim (Blocked w kind xs) (s .readers .block start kind w) (s .rows .block xs)
-
-  no-priority : Ranked 0 0
-  no-priority = record { below = refl; same = λ j. rw (le-leb 0 j (omega arith), le-ltb (2 * j + 1) 0 (omega arith)) }
 
   module _ (agrees : Agrees) {B : Type 0} {P : B → World → Outcome → Type 0} where
     -- An expression that has to be there, its priority wanted.

@@ -29,7 +29,8 @@ use Rattle.chart.specs.Parser as Chart
 use Rattle.tree.specs.Stored.{isName}
 use Rattle.tree.specs.Grown.{⊕-assoc, ⊕-none}
 use Rattle.agreement.specs.Run.{run, turns}
-use Rattle.agreement.specs.Sim.{Sim, gives, fails, sinks, Made, made, mapped, call, Setting, runs, lexemeOf, Fits, Taken, peek-rule, eat-rule, eat-hit, eat-miss, check-rule, check-is, check-either, eof-rule, eof-either, expect-rule, expect-hit, expect-miss, unexpected-rule}
+use Rattle.agreement.specs.Sim.{Sim, gives, fails, sinks, Made, made, mapped, call, Setting, runs, lexemeOf, Fits, Taken, peek-rule, eat-rule, eat-hit, eat-miss, check-rule, check-is, check-either, eof-rule, eof-either, expect-rule, expect-hit, expect-miss, recover-rule, unexpected-rule}
+use Rattle.agreement.specs.Outcomes.{on-none, on-yes, bind-try}
 use Rattle.agreement.specs.Steps.{isFlagged, Open, Done, Agrees, alloc-rule, alloc-here, push-rule, close-branch, expr-rule, try-rule}
 use Rattle.agreement.specs.Leaves.{nameTree, ident-rule, expect-ident-rule}
 use Rattle.agreement.specs.Branches.{After}
@@ -147,39 +148,6 @@ module _ (s : Setting) (a : Agrees s) where
       close-branch s w v₃ k y₁ o₂ refl f₅ (λ n₂ v₄ d₂ f₆. g n₂ v₄ _ ws d₂ f₆ (omega (arith, t .shorter))))))))
       (λ q i. absurd (true≢false (sym e ∙ q))))
 
-  on-no : (K : ℕ) (xs : List RowToken) (h : Lexeme → List RowToken → Outcome) (m : Outcome) → begins K xs ≡ false → on K xs h m ≡ m
-  unfolding on begins if
-  on-no K [] h m e = refl
-  on-no K (token k v ∷ xs) h m e = rw (e, if)
-
-  on-yes : (K : ℕ) (xs : List RowToken) (h : Lexeme → List RowToken → Outcome) (m m₁ : Outcome) → begins K xs ≡ true → on K xs h m ≡ on K xs h m₁
-  unfolding on begins if
-  on-yes K [] h m m₁ e = absurd (false≢true e)
-  on-yes K (token k v ∷ xs) h m m₁ e = rw (e, if)
-
-  bind-try : (o : Outcome) (c : Trees → List RowToken → Outcome) → bind o c ≡ try o c failed
-  unfolding bind try
-  bind-try (Chart.ok t ys) c = refl
-  bind-try nothing c = refl
-  bind-try failed c = refl
-  bind-try Chart.deep c = refl
-
-  -- `expect_check_recovery`: a report, where the token is not there.
-  recover-rule : {B : Type 0} {P : B → World → Outcome → Type 0} (w : World) (k : Bool → World → Fate B) {K : ℕ} (recovery : List ℕ) {xs : List RowToken} (h : Lexeme → List RowToken → Outcome) {m : Outcome} → eqb Token.Eof K ≡ false → Fits s w xs
-      → ((j : ℕ) (row : List Seen) (ys : List RowToken) → Taken s K w xs j row ys → Sim P (k true (moveTo (suc j) row w)) (h (lexemeOf s j) ys))
-      → (begins K xs ≡ false → m ≡ failed)
-      → Sim P (runs s (expectCheckRecovery K recovery) w k) (on K xs h m)
-  unfolding run expectCheckRecovery
-  recover-rule {P = P} w k {K} recovery h n f hit miss =
-      eat-rule s w _ h n f hit (λ e i. rw (miss e)
-      (peek-rule s (moveTo i (w .row) w) (λ next u. runs s (Branch (contains recovery next && ltb 0 (u .at)) (Then before (λ place. emitAndMark Report.MissingToken K place)) emitUnexpected) u (λ _ v. k false v)) f
-      (λ i₁ e₁. either i₁ (contains recovery Token.Eof && ltb 0 i₁))
-      (λ j kind ys e₁ e₂. either j (contains recovery kind && ltb 0 j))))
-    where
-      either : (i : ℕ) (b : Bool) → Sim P (runs s (Branch b (Then before (λ place. emitAndMark Report.MissingToken K place)) emitUnexpected) (moveTo i (w .row) w) (λ _ v. k false v)) failed
-      either i true = fails
-      either i false = unexpected-rule s (moveTo i (w .row) w) _ f
-
   -- What a turn is followed by, where n are left.
   abbrev membersFrom : ℕ → Members → World → Fate Unfinished
   membersFrom n y v = turns (λ y v j. runs s (memberTurn y) v j) n y v (λ y v. runs s (expect Token.RightCurly) v (λ _ z. ok (y .body) z))
@@ -216,15 +184,15 @@ module _ (s : Setting) (a : Agrees s) where
     unfolding run begins contains turns
     after-read =
         peek-rule s z (λ next v. runs s (Branch (contains afterField next) (Give (again (members y false))) (Then (expectCheckRecovery Token.Comma (Token.Identifier ∷ Token.Eager ∷ Token.Fn ∷ [])) (λ _. Give (again (members y false))))) v (following n)) f
-        (λ i e. rw (on-no Token.Comma ws _ _ (rw e refl)) (methods-follow i (rw e refl)))
+        (λ i e. rw (on-none Token.Comma ws _ _ (rw e refl)) (methods-follow i (rw e refl)))
         (λ j kind ys e _. go j kind ys e (contains afterField kind) refl)
       where
         go : (j kind : ℕ) (ys : List RowToken) → ws ≡ token kind (lexemeOf s j) ∷ ys → (b : Bool) → contains afterField kind ≡ b
             → Agree (runs s (Branch b (Give (again (members y false))) (Then (expectCheckRecovery Token.Comma (Token.Identifier ∷ Token.Eager ∷ Token.Fn ∷ [])) (λ _. Give (again (members y false))))) (moveTo j (z .row) z) (following n))
             (on Token.Comma ws (λ _ vs. bind (readStructBody (s .rows) m vs) (λ us qs. Chart.ok (t ▸ us) qs)) (bind (readMethods (s .rows) m ws) (λ us qs. Chart.ok (t ▸ us) qs)))
-        go j kind ys e true c = let (p, q) = after-field kind c in rw (on-no Token.Comma ws _ _ (rw e p)) (methods-follow j (rw e q))
+        go j kind ys e true c = let (p, q) = after-field kind c in rw (on-none Token.Comma ws _ _ (rw e p)) (methods-follow j (rw e q))
         go j kind ys e false c =
-            recover-rule (moveTo j (z .row) z) _ (Token.Identifier ∷ Token.Eager ∷ Token.Fn ∷ []) _ refl f
+            recover-rule s (moveTo j (z .row) z) _ (Token.Identifier ∷ Token.Eager ∷ Token.Fn ∷ []) _ refl f
             (λ j₁ row vs t₁. mapped (λ us. t ▸ us) (ih w (moveTo (suc j₁) row z) y h (ts ⊕ (t ▸ none)) vs (omega (arith, t₁ .shorter)) (omega (arith, t₁ .shorter)) o (t₁ .fit)) (λ y₁ z₁ us₁ zs₁. longer s a t (omega (arith, t₁ .shorter))))
             (λ _. methods-fail kind (lexemeOf s j) ys e c)
 
@@ -241,7 +209,7 @@ module _ (s : Setting) (a : Agrees s) where
   field-turns (suc n) (suc m) w u x h ts xs l l₁ o f = go (field-turns n m) (begins Token.Identifier xs) refl
     where
       go : FieldTurns n m → (b : Bool) → begins Token.Identifier xs ≡ b → Sim (Made (Longer s a w h ts xs)) (runs s (memberTurn (members x false)) u (following n)) (readStructBody (s .rows) (suc m) xs)
-      go ih false q = rw (on-no Token.Identifier xs _ _ q) (method-turns (suc n) (suc m) w u x false h ts xs (λ p. absurd (true≢false (sym p ∙ q))) l l₁ o f)
+      go ih false q = rw (on-none Token.Identifier xs _ _ q) (method-turns (suc n) (suc m) w u x false h ts xs (λ p. absurd (true≢false (sym p ∙ q))) l l₁ o f)
       go ih true q =
           let (p₁, p₂, p₃, p₄) = named-row xs q in
           eof-rule s u _ f (λ e i. absurd (p₄ e)) (λ i kind ys e.
@@ -286,7 +254,7 @@ module _ (s : Setting) (a : Agrees s) where
           (bind (s .rows .expr false 0 xs) (λ t zs. on Token.LeftCurly zs (λ _ ws. bind (readStructBody (s .rows) (suc (length ws)) ws) (λ u vs. c (t ⊕ branch Node.StructBody 0 u) vs)) failed)))
       go x u o f₁ true e = rw (on-yes Token.LeftCurly xs _ _ failed e) (body-rule w u k (λ t ws. c (node Node.StructBody (flags 0) t ▸ none) ws) x o f₁ (λ n v us ys d f₂ l. g n v _ ys d f₂ l))
       go x u o f₁ false e =
-          rw (on-no Token.LeftCurly xs _ _ e, bind-try (s .rows .expr false 0 xs) _)
+          rw (on-none Token.LeftCurly xs _ _ e, bind-try (s .rows .expr false 0 xs) _)
           (try-rule s a u _ _ failed NoPostFixCurlyBrace f₁
           (λ n v t ys d f₂ l. push-rule s w u v _ x n o d f₂ (λ y z o₁ f₃.
           body-rule w z k (λ us vs. c (t ▸ (node Node.StructBody (flags 0) us ▸ none)) vs) y o₁ f₃ (λ m v₁ us zs d₁ f₄ l₁. g m v₁ _ zs d₁ f₄ (omega arith))))
@@ -308,7 +276,7 @@ module _ (s : Setting) (a : Agrees s) where
   fields m w u x h ts xs k o f g z = go (begins Token.Identifier xs) refl
     where
       go : (b : Bool) → begins Token.Identifier xs ≡ b → Sim (Made (Longer s a w h ts xs)) (runs s (fieldAssign x) u k) (readFields (s .rows) (suc m) xs)
-      go false e = rw (on-no Token.Identifier xs _ _ e) (check-is s u _ Token.Identifier refl f (λ i. rw e (z i)))
+      go false e = rw (on-none Token.Identifier xs _ _ e) (check-is s u _ Token.Identifier refl f (λ i. rw e (z i)))
       go true e =
           check-is s u _ Token.Identifier refl f (λ i. rw e (
           alloc-here s (moveTo i (u .row) u) _ Node.FieldAssign 0 f (λ y v o₁ f₁.
