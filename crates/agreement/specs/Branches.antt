@@ -1,10 +1,10 @@
 -- `if` and `match`.
-use mathlib.Core.Path.{_≡_, refl, sym, _∙_, ap}
-use mathlib.Core.Bool.{Bool, true, false, _||_}
+use mathlib.Core.Path.{_≡_, refl, ap}
+use mathlib.Core.Bool.{true, false}
 use mathlib.Core.Option.{Option}
 use mathlib.Core.Option as Option
-use mathlib.Core.List.{List, [], _∷_}
-use Prim.Native.Nat.{ℕ, zero, suc, _+_, _<_}
+use mathlib.Core.List.{List}
+use Prim.Native.Nat.{ℕ, zero, suc, _<_}
 use native.Mathlib.Omega.{arith}
 use lib.ListN.{length}
 use Rattle.words.specs.Token
@@ -13,20 +13,20 @@ use Rattle.words.specs.Flag
 use Rattle.words.specs.Words.{nodeHead}
 use Rattle.definition.specs.declared.Mode.the-variants.{AllowAll, NoPostFixCurlyBrace}
 use Rattle.definition.specs.declared.Unfinished.{Unfinished}
-use Rattle.definition.specs.Prog.{Turn, again, stop, Prog, Then, Give, Branch, Loop, position}
+use Rattle.definition.specs.Prog.{Prog, Then, Give, Branch, Loop, position}
 use Rattle.definition.specs.Tokens.{eat, expect}
 use Rattle.definition.specs.Nodes.{closeNode, pushChild}
 use Rattle.definition.specs.Expressions.{ElseIfs, elseIfBranch, elseTurn, conditional, pushClosing, parseExpr, fallbackArm, keyedArm, armTurn, matchExpr}
 use Rattle.definition.specs.Abstract.{World, Fate, ok, moveTo}
-use Rattle.chart.specs.Row.{Lexeme, RowToken, token, begins, isOver}
-use Rattle.chart.specs.Tree.{flags, Tree, Trees, node, none, _▸_, _⊕_, branch, listed, named}
+use Rattle.chart.specs.Row.{RowToken, isOver}
+use Rattle.chart.specs.Tree.{flags, Tree, Trees, node, none, _▸_, _⊕_, branch, named}
 use Rattle.chart.specs.Parser.{Outcome, if, on, bind, failed, push, readElseIfs, readArm, readArms}
 use Rattle.chart.specs.Parser as Chart
 use Rattle.tree.specs.Stored.{isName}
 use Rattle.tree.specs.Grown.{⊕-assoc, ⊕-none}
 use Rattle.agreement.specs.Run.{run, turns}
-use Rattle.agreement.specs.Sim.{Sim, gives, fails, Made, made, mapped, call, Setting, runs, lexemeOf, Fits, eat-rule, check-rule, check-either, eof-rule, eof-either, expect-rule, expect-hit, expect-miss, unexpected-rule}
-use Rattle.agreement.specs.Steps.{isFlagged, Open, Done, One, one, call-one, Agrees, alloc-rule, alloc-here, push-rule, close-branch, update-rule, expr-rule, here-rule}
+use Rattle.agreement.specs.Sim.{Sim, gives, Made, made, mapped, call, Setting, runs, lexemeOf, Fits, eat-rule, check-rule, eof-rule, eof-either, expect-rule, expect-hit, expect-miss}
+use Rattle.agreement.specs.Steps.{isFlagged, Open, Done, One, one, call-one, Agrees, alloc-rule, alloc-here, push-rule, close-branch, expr-rule, here-rule}
 use Rattle.agreement.specs.Leaves.{ident-rule}
 use Rattle.agreement.specs.Lists.{Longer, longer}
 use Rattle.agreement.specs.Closing.{Closes, no-closing, closing, closing-rule, update-push-rule}

@@ -1,28 +1,26 @@
 -- A list that is closed and what closes the node after it: an else block after the else-if branches, the closing expression after statements.
-use mathlib.Core.Path.{_≡_, refl, sym, _∙_, ap}
-use mathlib.Core.Logic.{_≢_}
-use mathlib.Core.Bool.{Bool, true, false, _&&_}
+use mathlib.Core.Path.{_≡_, refl, _∙_}
+use mathlib.Core.Bool.{true}
 use mathlib.Core.Option.{Option}
 use mathlib.Core.Option as Option
 use mathlib.Core.List.{List, [], _∷_, _++_}
-use Prim.Native.Nat.{ℕ, zero, suc, _+_, _<_, _≤_}
+use Prim.Native.Nat.{ℕ, _+_, _<_}
 use native.Mathlib.Omega.{arith}
-use native.Mathlib.Nat.{le-of-eq}
 use lib.ListN.{length, length-append, List·getD-append}
-use Rattle.words.specs.Words.{nodeKind, nodePayload, nodeHead}
+use Rattle.words.specs.Words.{nodeHead}
 use Rattle.definition.specs.declared.Unfinished.{Unfinished}
 use Rattle.definition.specs.Prog.{Then, headWord, endWord, firstWord}
 use Rattle.definition.specs.Nodes.{allocNodeFrom, closeNodeAt, closeNode, updateKind, pushChild}
 use Rattle.definition.specs.Expressions.{pushClosing}
-use Rattle.definition.specs.Abstract.{Node, noNode, newNode, nodeAt, written, adopted, wordIn, World, Fate, withStore, withLink}
+use Rattle.definition.specs.Abstract.{noNode, newNode, written, adopted, wordIn, World, Fate, withStore, withLink}
 use Rattle.definition.specs.Encodes.{written-length, adopted-length}
 use Rattle.chart.specs.Row.{RowToken}
 use Rattle.chart.specs.Tree.{flags, Tree, Trees, node, none, _▸_, _⊕_}
 use Rattle.chart.specs.Parser.{Outcome}
-use Rattle.tree.specs.Grown.{size, sizes, ⊕-assoc, Built, Growing, Waiting, opened, ahead, closed, waits, waits-on, adopt, rekinded, wait-rekinded, ended, wait-ended}
+use Rattle.tree.specs.Grown.{size, ⊕-assoc, Waiting, opened, ahead, closed, waits, waits-on, adopt, rekinded, wait-rekinded, ended, wait-ended}
 use Rattle.agreement.specs.Run.{run}
 use Rattle.agreement.specs.Sim.{Sim, Setting, runs, Fits}
-use Rattle.agreement.specs.Steps.{isFlagged, flagged, Open, Done, store-fit, both, push-rule, close-branch}
+use Rattle.agreement.specs.Steps.{isFlagged, flagged, Open, Done, both, push-rule, close-branch}
 
 module _ (s : Setting) where
   -- A list that is open and the tree read since, if any.

@@ -1,14 +1,14 @@
 -- Declarations and the file.
-use mathlib.Core.Path.{_≡_, refl, sym, _∙_, ap, subst}
-use mathlib.Core.Bool.{Bool, true, false, _&&_, true≢false}
+use mathlib.Core.Path.{_≡_, refl, sym, _∙_, subst}
+use mathlib.Core.Bool.{Bool, true, false, true≢false}
 use mathlib.Core.Option.{Option}
 use mathlib.Core.Option as Option
 use mathlib.Core.List.{List, [], _∷_, _++_}
 use Prim.Native.Nat.{ℕ, zero, suc, _+_, _<_, _≤_, _^_}
 use native.Mathlib.Omega.{arith}
-use borrow.Author.Tests.{eqb-true, eq-eqb, ne-eqb}
-use lib.Dec.{eqb, ltb}
-use lib.ListN.{length, length-append, List·getD-append}
+use borrow.Author.Tests.{eqb-true, ne-eqb}
+use lib.Dec.{eqb}
+use lib.ListN.{length, length-append}
 use Rattle.words.specs.Token
 use Rattle.words.specs.Node
 use Rattle.words.specs.Flag
@@ -16,15 +16,15 @@ use Rattle.words.specs.Words.{nodeHead}
 use Rattle.definition.specs.declared.Mode.the-variants.{AllowAll}
 use Rattle.definition.specs.declared.Unfinished.{Unfinished}
 use Rattle.definition.specs.Prog.{Turn, again, stop, Prog, Give, Then, Branch, Loop, peek, endWord}
-use Rattle.definition.specs.Tokens.{Delimited, delimited, delimitedTurn, constDefExprRecovery, contains, check, eat, emitUnexpected, expect, expectCheckRecovery, parseDelimited}
+use Rattle.definition.specs.Tokens.{Delimited, delimited, delimitedTurn, constDefExprRecovery, check, eat, expect, expectCheckRecovery, parseDelimited}
 use Rattle.definition.specs.Nodes.{allocNodeFrom, allocNode, closeNodeAt, closeNode, pushChild}
 use Rattle.definition.specs.Expressions.{parseExpr}
 use Rattle.definition.specs.Declarations.{pathTurn, parseImportGroupItem, Group, groupItem, parseImportGroup, ImportSoFar, globImport, groupImport, importTurn, importAs, parseConstDecl, parseImportDecl, noDecl, parseDecl, declTurn, parseFile}
-use Rattle.definition.specs.Abstract.{Seen, noNode, newNode, written, World, Fate, ok, fail, moveTo, withStore, withLink}
+use Rattle.definition.specs.Abstract.{Seen, newNode, written, World, Fate, ok, fail, moveTo, withStore, withLink}
 use Rattle.definition.specs.Encodes.{adopted-length}
 use Rattle.chart.specs.Row.{Lexeme, RowToken, token, begins}
 use Rattle.chart.specs.Tree.{Tree, Trees, flags, node, none, _▸_, _⊕_, branch, flag, named}
-use Rattle.chart.specs.Parser.{Outcome, if, on, bind, nothing, failed, goesOn, readPath, readItem, readItems, readImport, readDeclaration, readDeclarations, readFile}
+use Rattle.chart.specs.Parser.{Outcome, if, on, bind, failed, goesOn, readPath, readItem, readItems, readImport, readDeclaration, readDeclarations, readFile}
 use Rattle.chart.specs.Parser as Chart
 use Rattle.agreement.specs.Run.{run, turns}
 use Rattle.agreement.specs.Sim.{Sim, gives, fails, sinks, Made, made, mapped, call, Setting, runs, lexemeOf, cost, Ahead, Fits, Taken, peek-rule, pass-rule, eat-rule, check-rule, eof-rule, eof-either, expect-rule, expect-hit, expect-miss, recover-rule, unexpected-rule}
@@ -33,7 +33,7 @@ use Rattle.agreement.specs.Steps.{isFlagged, flagged, Open, Done, Agrees
 use Rattle.agreement.specs.Closing.{around-rule}
 use Rattle.agreement.specs.Leaves.{expect-ident-rule}
 use Rattle.tree.specs.Stored.{isName}
-use Rattle.tree.specs.Grown.{size, ⊕-assoc, ⊕-none, Built, opened, closed, waits, adopt, push, ended}
+use Rattle.tree.specs.Grown.{⊕-assoc, ⊕-none, Built, opened, closed, push, ended}
 
 -- An item of a group, and what comes after it.
 item-is : (xs : List RowToken) (c : Trees → List RowToken → Outcome)

@@ -1,12 +1,12 @@
 -- Functions, structs and tuple types.
-use mathlib.Core.Path.{_≡_, refl, sym, _∙_, ap}
-use mathlib.Core.Bool.{Bool, true, false, _||_}
+use mathlib.Core.Path.{_≡_, refl, ap}
+use mathlib.Core.Bool.{Bool, true, false}
 use mathlib.Core.Option.{Option}
 use mathlib.Core.Option as Option
-use mathlib.Core.List.{List, [], _∷_}
-use Prim.Native.Nat.{ℕ, zero, suc, _+_, _<_, pred}
+use mathlib.Core.List.{List}
+use Prim.Native.Nat.{ℕ, suc, _<_, pred}
 use native.Mathlib.Omega.{arith}
-use lib.Dec.{eqb, lit<}
+use lib.Dec.{lit<}
 use lib.ListN.{length}
 use Rattle.words.specs.Token
 use Rattle.words.specs.Node
@@ -15,24 +15,24 @@ use Rattle.words.specs.Words.{nodeHead}
 use Rattle.literals.specs.Spelling.{firstAlike}
 use Rattle.definition.specs.declared.Mode.the-variants.{AllowAll, NoPostFixCurlyBrace}
 use Rattle.definition.specs.declared.Unfinished.{Unfinished}
-use Rattle.definition.specs.Prog.{Turn, again, stop, Prog, Then, Give, Branch, Loop, position}
-use Rattle.definition.specs.Tokens.{check, eat, expect, parseDelimited}
+use Rattle.definition.specs.Prog.{Then, Branch}
+use Rattle.definition.specs.Tokens.{check, expect}
 use Rattle.definition.specs.Nodes.{closeNode, pushChild}
-use Rattle.definition.specs.Expressions.{anyType, parameterName, parseParameter, parseFunctionSignatureAndBody, parseFunctionDef, parseMethodDef, parseExpr}
+use Rattle.definition.specs.Expressions.{anyType, parameterName, parseParameter, parseFunctionSignatureAndBody, parseFunctionDef, parseExpr}
 use Rattle.definition.specs.Abstract.{World, Fate, ok, moveTo}
-use Rattle.chart.specs.Row.{Lexeme, RowToken, token, begins}
-use Rattle.chart.specs.Tree.{flags, Tree, Trees, node, none, _▸_, _⊕_, branch, named}
+use Rattle.chart.specs.Row.{RowToken}
+use Rattle.chart.specs.Tree.{Tree, Trees, none, _▸_, _⊕_, branch}
 use Rattle.chart.specs.Tree as Tree
 use Rattle.chart.specs.Parser.{Outcome, on, bind, try, nothing, failed, readParameterType, readParameter, readParameters, readSignature}
 use Rattle.chart.specs.Parser as Chart
 use Rattle.tree.specs.Stored.{isName}
-use Rattle.tree.specs.Grown.{⊕-assoc, ⊕-none}
-use Rattle.agreement.specs.Run.{run, turns}
-use Rattle.agreement.specs.Sim.{Sim, gives, fails, sinks, Made, made, mapped, call, call-try, Setting, runs, lexemeOf, Fits, eat-rule, check-rule, expect-rule, expect-hit}
-use Rattle.agreement.specs.Steps.{isFlagged, Open, Done, One, one, call-one, Agrees, alloc-at, alloc-rule, alloc-here, push-rule, close-rule, close-branch, expr-rule, here-rule}
-use Rattle.agreement.specs.Leaves.{nameTree, name-said, name-at, expect-ident-rule}
+use Rattle.tree.specs.Grown.{⊕-assoc}
+use Rattle.agreement.specs.Run.{run}
+use Rattle.agreement.specs.Sim.{Sim, gives, Made, made, call, call-try, Setting, runs, Fits, eat-rule, check-rule, expect-rule, expect-hit}
+use Rattle.agreement.specs.Steps.{isFlagged, Open, One, one, call-one, Agrees, alloc-at, alloc-rule, alloc-here, push-rule, close-rule, close-branch, expr-rule, here-rule}
+use Rattle.agreement.specs.Leaves.{name-said, name-at, expect-ident-rule}
 use Rattle.agreement.specs.Branches.{After}
-use Rattle.agreement.specs.Lists.{Longer, longer, Elements, onward, list-rule, list-expect}
+use Rattle.agreement.specs.Lists.{Longer, Elements, list-expect}
 
 module _ (s : Setting) (a : Agrees s) where
   -- ---- parameters

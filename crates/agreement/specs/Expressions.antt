@@ -1,36 +1,32 @@
 -- Expressions: `try_parse_expr_min_bp`.
-use mathlib.Core.Path.{_≡_, refl, sym, _∙_, ap}
+use mathlib.Core.Path.{_≡_, refl}
 use mathlib.Core.Bool.{Bool, true, false, cond, not, _&&_, true≢false, false≢true}
 use mathlib.Core.Option.{Option}
 use mathlib.Core.Option as Option
-use mathlib.Core.List.{List, [], _∷_}
+use mathlib.Core.List.{List, _∷_}
 use Prim.Native.Nat.{ℕ, zero, suc, _+_, _*_, _<_}
 use native.Mathlib.Omega.{arith}
-use borrow.Author.Tests.{ltb-true, ltb-false, leb-true, leb-false, le-leb, lt-ltb, le-ltb, lt-leb}
+use borrow.Author.Tests.{leb-true, leb-false, lt-ltb, le-ltb}
 use lib.Dec.{eqb, ltb, leb}
 use lib.ListN.{length}
 use Rattle.words.specs.Token
 use Rattle.words.specs.Node
-use Rattle.words.specs.BinaryOp
 use Rattle.words.specs.UnaryOp
-use Rattle.words.specs.Words.{nodeHead}
 use Rattle.definition.specs.declared.Mode.{Mode}
-use Rattle.definition.specs.declared.Mode.the-variants.{AllowAll, NoPostFixCurlyBrace}
-use Rattle.definition.specs.declared.Unfinished.{Unfinished}
-use Rattle.definition.specs.Prog.{Turn, again, stop, Prog, Then, Give, Branch, Loop, pass}
+use Rattle.definition.specs.Prog.{Turn, again, stop, Then, Give, Branch, Loop, pass}
 use Rattle.definition.specs.Nodes.{skipTriviaStart}
-use Rattle.definition.specs.Expressions.{Binary, binary, binaries, binaryOf, unaryOf, allowsStructLiteral, memberExpr, callExpr, structLit, fieldAssign, exprElement, binaryExpr, binaryStep, exprTurn, unaryExpr, eatUnary, checkBinaryOp, tryParseExprMinBp, tryParseStandaloneExpr, accessName, eats, checks}
+use Rattle.definition.specs.Expressions.{Binary, binaries, binaryOf, unaryOf, allowsStructLiteral, memberExpr, callExpr, structLit, fieldAssign, exprElement, binaryExpr, binaryStep, exprTurn, unaryExpr, eatUnary, checkBinaryOp, tryParseExprMinBp, tryParseStandaloneExpr, accessName, eats, checks}
 use Rattle.definition.specs.Abstract.{World, Fate, ok, moveTo}
 use Rattle.chart.specs.Row.{Lexeme, RowToken, token, begins}
 use Rattle.chart.specs.Tree.{flags, Tree, Trees, node, none, _▸_, _⊕_, branch, named}
-use Rattle.chart.specs.Chart.{Role, operator, levels, within, lookup, operatorOf, notBinary, prefixLevel, binaryTree}
+use Rattle.chart.specs.Chart.{Role, within, lookup, operatorOf, notBinary, prefixLevel, binaryTree}
 use Rattle.chart.specs.Chart as Grammar
 use Rattle.chart.specs.Parser.{Outcome, if, on, bind, try, onLevel, onOp, nothing, failed, readList, readFields, readOn, readOperand, readPrefix, readLevel}
 use Rattle.chart.specs.Parser as Chart
 use Rattle.tree.specs.Stored.{isName}
 use Rattle.agreement.specs.Run.{run, turns}
 use Rattle.agreement.specs.Sim.{Sim, gives, call-try, Setting, runs, lexemeOf, Fits, peek-rule, pass-rule, eat-rule, check-rule, check-is, unexpected-rule}
-use Rattle.agreement.specs.Steps.{isFlagged, rootKind, isOdd, Ranked, Open, Done, Found, found, not-found, Agrees, alloc-rule, alloc-here, push-rule, close-branch, operand-rule}
+use Rattle.agreement.specs.Steps.{isFlagged, rootKind, isOdd, Ranked, Done, Found, found, not-found, Agrees, alloc-rule, alloc-here, push-rule, close-branch, operand-rule}
 use Rattle.agreement.specs.Leaves.{ident-rule}
 use Rattle.agreement.specs.Lists.{list-rule, list-expect, expressions}
 use Rattle.agreement.specs.Closing.{around-rule, around-two}

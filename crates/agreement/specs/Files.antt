@@ -1,25 +1,23 @@
 -- At every depth, and the file: the abstract run of parsing agrees with the parser of rows.
-use mathlib.Core.Path.{_≡_, refl, sym, _∙_, ap, subst}
-use mathlib.Core.Bool.{Bool, true, false}
+use mathlib.Core.Path.{_≡_, refl, subst}
+use mathlib.Core.Bool.{true}
 use mathlib.Core.Option.{Option}
-use mathlib.Core.Option as Option
-use mathlib.Core.List.{List, [], _∷_}
+use mathlib.Core.List.{List, []}
 use Prim.Native.Nat.{ℕ, zero, suc, _+_, _<_, _≤_, _^_}
 use native.Mathlib.Omega.{arith}
 use lib.ListN.{length}
-use Rattle.definition.specs.declared.Mode.{Mode}
 use Rattle.definition.specs.Expressions.{tryParseExprMinBp, allowsStructLiteral}
 use Rattle.definition.specs.Statements.{parseBlock}
 use Rattle.definition.specs.Declarations.{parseFile}
 use Rattle.definition.specs.Parse.{maxDepth, tokenLimit}
-use Rattle.definition.specs.Abstract.{Seen, rowFrom, World, Fate, ok, ReadersA, evalA, towerA, startA, parsedA}
+use Rattle.definition.specs.Abstract.{Seen, rowFrom, World, Fate, towerA, startA, parsedA}
 use Rattle.chart.specs.Row.{RowToken}
 use Rattle.chart.specs.Tree.{Tree, Trees, none, _▸_}
-use Rattle.chart.specs.Parser.{Outcome, Readers, readers, readLevel, readBlock, parse}
+use Rattle.chart.specs.Parser.{Outcome, readers, readLevel, readBlock, parse}
 use Rattle.tree.specs.Grown.{Built}
 use Rattle.agreement.specs.Run.{run-ok}
-use Rattle.agreement.specs.Sim.{Sim, gives, fails, sinks, Made, made, Setting, runs, cost, Ahead, over, eof-ahead, next, Fit, Fits}
-use Rattle.agreement.specs.Steps.{Ranked, isFlagged, Done, Found, found, not-found, Blocked, Agrees}
+use Rattle.agreement.specs.Sim.{Sim, gives, fails, sinks, Made, made, Setting, cost, Ahead, over, eof-ahead, next, Fits}
+use Rattle.agreement.specs.Steps.{Found, found, not-found, Blocked, Agrees}
 use Rattle.agreement.specs.Expressions.{expression-read}
 use Rattle.agreement.specs.Statements.{block}
 use Rattle.agreement.specs.Declarations.{file-rule}

@@ -1,31 +1,29 @@
 -- Names, and nodes of one token.
-use mathlib.Core.Path.{_≡_, refl, sym, _∙_, ap, subst}
-use mathlib.Core.Bool.{Bool, true, false, cond}
+use mathlib.Core.Path.{_≡_, refl, sym, subst}
+use mathlib.Core.Bool.{true, false}
 use mathlib.Core.Option.{Option}
 use mathlib.Core.Option as Option
-use mathlib.Core.List.{List, [], _∷_}
-use Prim.Native.Nat.{ℕ, zero, suc, _+_, _<_, _≤_, _^_, pred}
+use mathlib.Core.List.{List}
+use Prim.Native.Nat.{ℕ, suc, _<_, _^_, pred}
 use native.Mathlib.Omega.{arith}
 use borrow.Author.Tests.{lt-ltb}
-use lib.Dec.{eqb, ltb, lit<}
+use lib.Dec.{lit<}
 use lib.ListN.{length}
 use Rattle.words.specs.Token
 use Rattle.words.specs.Node
 use Rattle.words.specs.Words.{tokenKind, nodeKind, nodePayload, nodeHead}
 use Rattle.words.specs.Laws.{high-pack, low-pack}
 use Rattle.literals.specs.Spelling.{wordAt, spelling, firstAlike}
-use Rattle.definition.specs.declared.Unfinished.{Unfinished}
-use Rattle.definition.specs.Tokens.{eat, check, emitUnexpected}
-use Rattle.definition.specs.Nodes.{allocNodeFrom, closeNode, allocLastTokenAsNode, tryParseIdent, tryParseBuiltinName, expectIdent, errorNode}
+use Rattle.definition.specs.Nodes.{allocLastTokenAsNode, tryParseIdent, expectIdent}
 use Rattle.definition.specs.Abstract.{World, Fate, moveTo}
-use Rattle.chart.specs.Row.{Lexeme, RowToken, token, begins}
-use Rattle.chart.specs.Tree.{Value, flags, name, Tree, Trees, node, none, _▸_}
+use Rattle.chart.specs.Row.{Lexeme, RowToken, begins}
+use Rattle.chart.specs.Tree.{Value, flags, name, Tree, node, none}
 use Rattle.chart.specs.Parser.{Outcome, on, failed}
 use Rattle.tree.specs.Stored.{said, isName, where-so}
 use Rattle.agreement.specs.Run.{run}
-use Rattle.agreement.specs.Sim.{Sim, fails, Setting, runs, lexemeOf, Fits, Taken, eat-rule, check-either, unexpected-rule}
+use Rattle.agreement.specs.Sim.{Sim, fails, Setting, runs, lexemeOf, Fits, eat-rule, check-either, unexpected-rule}
 use Rattle.agreement.specs.Literals.{first-alike}
-use Rattle.agreement.specs.Steps.{isFlagged, Flagged, flagged, Done, Agrees, alloc-rule, close-rule}
+use Rattle.agreement.specs.Steps.{isFlagged, flagged, Done, Agrees, alloc-rule, close-rule}
 
 -- What a node says whose payload is the number of a token.
 abbrev pub nameTree : ℕ → List ℕ → Tree

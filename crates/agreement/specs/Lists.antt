@@ -1,29 +1,28 @@
 -- Lists between brackets.
-use mathlib.Core.Path.{_≡_, refl, sym, _∙_, ap}
-use mathlib.Core.Bool.{Bool, true, false, not, _||_}
+use mathlib.Core.Path.{_≡_, refl}
+use mathlib.Core.Bool.{true, false}
 use mathlib.Core.Option.{Option}
 use mathlib.Core.Option as Option
-use mathlib.Core.List.{List, [], _∷_}
-use Prim.Native.Nat.{ℕ, zero, suc, _+_, _<_, _≤_}
+use mathlib.Core.List.{List, _∷_}
+use Prim.Native.Nat.{ℕ, zero, suc, _<_, _≤_}
 use native.Mathlib.Omega.{arith}
 use lib.Dec.{eqb}
 use lib.ListN.{length}
 use Rattle.words.specs.Token
-use Rattle.words.specs.Node
 use Rattle.definition.specs.declared.Mode.the-variants.{AllowAll}
 use Rattle.definition.specs.declared.Unfinished.{Unfinished}
-use Rattle.definition.specs.Prog.{Turn, again, stop, Prog, Then, Give, Loop}
-use Rattle.definition.specs.Tokens.{Delimited, delimited, delimitedTurn, parseDelimited, expect, check, eof}
+use Rattle.definition.specs.Prog.{Prog, Then, Give, Loop}
+use Rattle.definition.specs.Tokens.{Delimited, delimited, delimitedTurn, parseDelimited, expect}
 use Rattle.definition.specs.Expressions.{exprElement}
 use Rattle.definition.specs.Abstract.{World, Fate, ok, moveTo}
-use Rattle.chart.specs.Row.{Lexeme, RowToken, token, begins}
-use Rattle.chart.specs.Tree.{Tree, Trees, node, none, _▸_, _⊕_}
-use Rattle.chart.specs.Parser.{Outcome, on, bind, try, failed, readList}
+use Rattle.chart.specs.Row.{Lexeme, RowToken, token}
+use Rattle.chart.specs.Tree.{Tree, Trees, none, _▸_, _⊕_}
+use Rattle.chart.specs.Parser.{Outcome, on, bind, failed, readList}
 use Rattle.chart.specs.Parser as Chart
 use Rattle.tree.specs.Grown.{⊕-assoc, ⊕-none}
 use Rattle.agreement.specs.Run.{run, turns}
-use Rattle.agreement.specs.Sim.{Sim, gives, fails, Made, made, mapped, call, Setting, runs, Fits, eat-rule, check-rule, eof-either, expect-rule, expect-hit, expect-miss, unexpected-rule}
-use Rattle.agreement.specs.Steps.{Open, Done, Agrees, push-rule, try-rule}
+use Rattle.agreement.specs.Sim.{Sim, gives, Made, made, mapped, call, Setting, runs, Fits, eat-rule, check-rule, eof-either, expect-rule, expect-hit, expect-miss, unexpected-rule}
+use Rattle.agreement.specs.Steps.{Open, Agrees, push-rule, try-rule}
 
 module _ (s : Setting) (a : Agrees s) where
   -- A list so far, with trees `ts`, that has `us` more.

@@ -1,36 +1,32 @@
 -- Number literals.
-use mathlib.Core.Path.{_≡_, refl, sym, _∙_, ap, subst}
-use mathlib.Core.Bool.{Bool, true, false, cond, _||_, true≢false, false≢true}
+use mathlib.Core.Path.{_≡_, refl}
+use mathlib.Core.Bool.{Bool, true, false, cond}
 use mathlib.Core.Option.{Option}
 use mathlib.Core.Option as Option
-use mathlib.Core.List.{List, [], _∷_, _++_}
-use Prim.Native.Nat.{ℕ, zero, suc, _+_, _<_, _≤_, _^_}
+use mathlib.Core.List.{List, _∷_, _++_}
+use Prim.Native.Nat.{ℕ, suc, _+_, _<_, _≤_, _^_}
 use native.Mathlib.Omega.{arith}
-use borrow.Author.Tests.{eqb-true}
 use lib.Dec.{eqb, lit<}
 use lib.ListN.{length, drop, length-append}
 use Rattle.words.specs.Token
-use Rattle.words.specs.Token.{lexError}
 use Rattle.words.specs.Node
 use Rattle.words.specs.Words.{nodeKind, nodePayload, nodeHead}
-use Rattle.literals.specs.Spelling as Source
 use Rattle.literals.specs.Numbers.{digits, numberValue, limbs}
-use Rattle.definition.specs.declared.Unfinished.{Unfinished}
-use Rattle.definition.specs.Prog.{Turn, again, stop, Prog, Then, Give, Branch, Loop, peek, pass, position, here, spelling, value}
-use Rattle.definition.specs.Nodes.{Radix, radixOf, tryParseNumLiteral, allocLastTokenAsNode, allocNodeFrom, closeNodeAt, skipTriviaStart}
+use Rattle.definition.specs.Prog.{Then, Give, pass, spelling, value}
+use Rattle.definition.specs.Nodes.{Radix, radixOf, tryParseNumLiteral, allocLastTokenAsNode}
 use Rattle.definition.specs.Expressions.{numLiteral}
-use Rattle.definition.specs.Abstract.{Seen, Node, World, Fate, ok, moveTo, withValue}
-use Rattle.chart.specs.Row.{Lexeme, RowToken, token, begins}
-use Rattle.chart.specs.Tree.{flags, number, bytes, Tree, Trees, node, none, _▸_, _⊕_, numeral, decoded, decodedHex, quiet, stringTree}
-use Rattle.chart.specs.Parser.{Outcome, if, on, bind, failed, prepend, readStrings}
+use Rattle.definition.specs.Abstract.{Node, World, Fate, ok, moveTo, withValue}
+use Rattle.chart.specs.Row.{RowToken, token}
+use Rattle.chart.specs.Tree.{number, Tree, node, none, _▸_, numeral}
+use Rattle.chart.specs.Parser.{Outcome, if, on}
 use Rattle.chart.specs.Parser as Chart
 use Rattle.tree.specs.Stored.{said, isName}
 use Rattle.tree.specs.Grown.{Built}
-use Rattle.tree.specs.Values.{says-more, number-read, string-read, AreBytes}
-use Rattle.agreement.specs.Run.{run, turns}
-use Rattle.agreement.specs.Sim.{Sim, gives, fails, sinks, Made, made, mapped, call, call-turns, Setting, runs, lexemeOf, Fit, Fits, Taken, cost, first-clean, peek-rule, pass-rule}
+use Rattle.tree.specs.Values.{says-more, number-read}
+use Rattle.agreement.specs.Run.{run}
+use Rattle.agreement.specs.Sim.{Sim, Setting, runs, lexemeOf, Fits, cost, peek-rule, pass-rule}
 use Rattle.agreement.specs.Literals.{head-parts, number-few}
-use Rattle.agreement.specs.Steps.{Done, Agrees}
+use Rattle.agreement.specs.Steps.{Done}
 use Rattle.agreement.specs.Leaves.{last-rule}
 
 -- What was built after a value was added was built before, too.

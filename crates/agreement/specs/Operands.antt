@@ -1,28 +1,27 @@
 -- Operands: `try_parse_standalone_expr`.
-use mathlib.Core.Path.{_≡_, refl, sym, _∙_, ap}
-use mathlib.Core.Bool.{Bool, true, false, true≢false}
+use mathlib.Core.Path.{refl}
+use mathlib.Core.Bool.{true, false, true≢false}
 use mathlib.Core.Option.{Option}
 use mathlib.Core.Option as Option
-use mathlib.Core.List.{List, [], _∷_}
-use Prim.Native.Nat.{ℕ, zero, suc, _+_, _<_}
+use mathlib.Core.List.{List}
+use Prim.Native.Nat.{ℕ, zero, suc, _<_}
 use native.Mathlib.Omega.{arith}
-use lib.Dec.{eqb, lit<}
+use lib.Dec.{lit<}
 use lib.ListN.{length}
 use Rattle.words.specs.Token
 use Rattle.words.specs.Node
 use Rattle.words.specs.Flag
-use Rattle.words.specs.Words.{nodeHead}
-use Rattle.definition.specs.declared.Mode.the-variants.{AllowAll, NoPostFixCurlyBrace}
+use Rattle.definition.specs.declared.Mode.the-variants.{AllowAll}
 use Rattle.definition.specs.declared.Unfinished.{Unfinished}
-use Rattle.definition.specs.Prog.{Turn, again, stop, Prog, Then, Give, Branch, Loop}
+use Rattle.definition.specs.Prog.{Then, Give, Loop}
 use Rattle.definition.specs.Tokens.{expect}
-use Rattle.definition.specs.Nodes.{closeNode, tryParseBuiltinName}
+use Rattle.definition.specs.Nodes.{tryParseBuiltinName}
 use Rattle.definition.specs.Expressions.{tupleTurn, parenOrTuple, eats, checks, eagerFunction, tryParseConditional, tryParseMatch, tryParseStandaloneExpr}
 use Rattle.definition.specs.Abstract.{World, Fate, ok, moveTo}
-use Rattle.chart.specs.Row.{Lexeme, RowToken, token, begins}
-use Rattle.chart.specs.Tree.{flags, Tree, Trees, node, none, _▸_, _⊕_, branch, named, builtinNamed}
+use Rattle.chart.specs.Row.{Lexeme, RowToken, begins}
+use Rattle.chart.specs.Tree.{flags, Tree, Trees, node, none, _▸_, _⊕_, branch}
 use Rattle.chart.specs.Tree as Tree
-use Rattle.chart.specs.Parser.{Outcome, on, bind, nothing, failed, readElements, readRound, readStruct, readOperand}
+use Rattle.chart.specs.Parser.{Outcome, on, readElements, readRound, readStruct, readOperand}
 use Rattle.chart.specs.Parser as Chart
 use Rattle.tree.specs.Stored.{isName}
 use Rattle.tree.specs.Grown.{⊕-none}
@@ -31,7 +30,7 @@ use Rattle.agreement.specs.Sim.{Sim, gives, Made, made, mapped, call, Se
 use Rattle.agreement.specs.Steps.{isFlagged, rootKind, isOdd, Open, Done, Found, found, not-found, Agrees, alloc-rule, push-rule, close-branch, update-rule, expr-rule, block-rule, here-rule}
 use Rattle.agreement.specs.Leaves.{nameTree, last-flagged, name-rule, ident-rule}
 use Rattle.agreement.specs.Lists.{Longer, longer}
-use Rattle.agreement.specs.Branches.{After, if-rule, match-rule}
+use Rattle.agreement.specs.Branches.{if-rule, match-rule}
 use Rattle.agreement.specs.Definitions.{function-rule}
 use Rattle.agreement.specs.Structs.{struct-rule, tuple-type-rule}
 use Rattle.agreement.specs.Numbers.{number-rule}

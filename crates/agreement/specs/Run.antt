@@ -1,15 +1,14 @@
 -- The abstract run (`Abstract`, crate definition) again, its continuation handed along: so a program that is a row of steps is run step by
 -- step, by computation alone.
 use mathlib.Core.Path.{_≡_, refl, sym, _∙_, ap}
-use mathlib.Core.Bool.{Bool, true, false}
-use mathlib.Core.Option.{Option}
+use mathlib.Core.Bool.{true, false}
 use mathlib.Core.List.{List, [], _∷_, _++_}
 use Prim.Native.Nat.{ℕ, zero, suc, pred}
 use lib.ListN.{length}
 use Rattle.words.specs.Words.{nodeKind, nodeHead}
 use Rattle.literals.specs.Spelling as Source
 use Rattle.definition.specs.Prog.{Turn, again, stop, Prog, Give, Then, Branch, Loop, peek, pass, position, here, before, spelling, intern, marked, emit, emitAndMark, alloc, closeAt, closeAtStart, setKind, link, kindOf, value, enterExpr, enterBlock, headWord, firstWord, endWord}
-use Rattle.definition.specs.Abstract.{Seen, newNode, written, World, Fate, ok, fail, deep, bindA, withStore, withLink, withValue, wordIn, kindA, passA, skipA, iterA, ReadersA, evalA}
+use Rattle.definition.specs.Abstract.{newNode, written, World, Fate, ok, fail, deep, bindA, withStore, withLink, withValue, wordIn, kindA, passA, skipA, iterA, ReadersA, evalA}
 
 module _ {B : Type 0} where
   -- Turns of a loop, at most so many.

@@ -1,8 +1,8 @@
 -- The abstract run beside the parser of rows (`Parser`, crate chart): what it is that they agree, and the steps that look at tokens.
-use mathlib.Core.Path.{_≡_, refl, sym, _∙_, ap, subst}
+use mathlib.Core.Path.{_≡_, refl, sym, _∙_, subst}
 use mathlib.Core.Bool.{Bool, true, false, _&&_, true≢false}
 use mathlib.Core.List.{List, [], _∷_}
-use Prim.Native.Nat.{ℕ, zero, suc, _+_, _<_, _≤_, _^_}
+use Prim.Native.Nat.{ℕ, suc, _+_, _<_, _^_}
 use native.Mathlib.Omega.{arith}
 use lib.Dec.{eqb, ltb}
 use borrow.Author.Tests.{eqb-true, eq-eqb}
@@ -15,10 +15,10 @@ use Rattle.literals.specs.Spelling.{wordAt}
 use Rattle.words.specs.Report
 use Rattle.definition.specs.Prog.{Turn, Prog, Then, Branch, peek, pass, before, emitAndMark}
 use Rattle.definition.specs.Tokens.{contains, check, eat, eof, emitUnexpected, expect, expectCheckRecovery}
-use Rattle.definition.specs.Abstract.{Seen, good, bad, stray, Node, World, Fate, ok, fail, deep, bindA, moveTo, kindA, passA, skipA, ReadersA, evalA}
+use Rattle.definition.specs.Abstract.{Seen, good, Node, World, Fate, ok, fail, deep, bindA, moveTo, kindA, passA, skipA, ReadersA, evalA}
 use Rattle.chart.specs.Row.{Lexeme, RowToken, token, begins}
 use Rattle.chart.specs.Tree.{Trees}
-use Rattle.chart.specs.Parser.{Outcome, if, on, bind, try, nothing, failed}
+use Rattle.chart.specs.Parser.{Outcome, if, on, bind, try, failed}
 use Rattle.chart.specs.Parser as Chart
 use Rattle.tree.specs.Rows.{lexeme}
 use Rattle.agreement.specs.Run.{run, turns, run-is, run-ok, turns-then}

@@ -1,12 +1,12 @@
 -- Statements and blocks.
 use mathlib.Core.Path.{_≡_, refl, sym, _∙_, ap, subst}
-use mathlib.Core.Bool.{Bool, true, false, not, _&&_, _||_, true≢false}
+use mathlib.Core.Bool.{Bool, true, false, not, _||_, true≢false}
 use mathlib.Core.Option.{Option}
 use mathlib.Core.Option as Option
 use mathlib.Core.List.{List, [], _∷_, _++_}
-use Prim.Native.Nat.{ℕ, zero, suc, _+_, _*_, _<_, _≤_}
+use Prim.Native.Nat.{ℕ, zero, suc, _+_, _<_, _≤_}
 use native.Mathlib.Omega.{arith}
-use borrow.Author.Tests.{lt-ltb, le-leb, le-ltb, eqb-true}
+use borrow.Author.Tests.{lt-ltb, eqb-true}
 use lib.Dec.{eqb}
 use lib.ListN.{length, length-append, List·getD-append}
 use Rattle.words.specs.Token
@@ -30,7 +30,7 @@ use Rattle.chart.specs.Parser as Chart
 use Rattle.chart.specs.Parser.{Outcome, if, on, bind, failed, readBindingName, readBinding, readExpression, readComptime, readStatement, readStatements, readBlock, push}
 use Rattle.agreement.specs.Run.{run, run-is, run-ok, turns}
 use Rattle.agreement.specs.Sim.{Sim, gives, fails, sinks, Made, made, Setting, runs, Fits, eat-rule, check-rule, check-hit, check-miss, eof-rule, eof-either, expect-rule, expect-hit, expect-miss, unexpected-rule}
-use Rattle.agreement.specs.Steps.{Ranked, Found, found, not-found, isFlagged, flagged, rootKind, isOdd, Open, Done, Agrees, both, Blocked, One, one, call-one, alloc-rule, alloc-here, push-rule, close-branch, update-rule, expr-rule, block-rule, here-rule, no-priority}
+use Rattle.agreement.specs.Steps.{Found, found, not-found, isFlagged, flagged, rootKind, isOdd, Open, Done, Agrees, both, Blocked, One, one, call-one, alloc-rule, alloc-here, push-rule, close-branch, update-rule, expr-rule, block-rule, here-rule, no-priority}
 use Rattle.agreement.specs.Leaves.{expect-ident-rule}
 use Rattle.tree.specs.Stored.{said, isName}
 use Rattle.tree.specs.Grown.{size, ⊕-assoc, ⊕-none, Is, is, Old, Says, is-kept, are-kept, Built, Growing, Waiting, ahead, opened, ended, wait-ended, waits, waits-on, adopt}

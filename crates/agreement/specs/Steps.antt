@@ -1,10 +1,10 @@
 -- The steps that make, link and close nodes, and those that read an expression or a block.
-use mathlib.Core.Path.{_≡_, refl, sym, _∙_, ap}
+use mathlib.Core.Path.{_≡_, refl, sym}
 use mathlib.Core.Bool.{Bool, true, false, cond, not, _&&_, _||_, false≢true}
 use mathlib.Core.Option.{Option}
 use mathlib.Core.Option as Option
 use mathlib.Core.List.{List, [], _∷_, _++_}
-use Prim.Native.Nat.{ℕ, zero, suc, _+_, _*_, _<_, _≤_, _^_}
+use Prim.Native.Nat.{ℕ, _+_, _*_, _<_, _≤_, _^_}
 use native.Mathlib.Omega.{arith}
 use native.Mathlib.Nat.{le-of-eq}
 use borrow.Author.Tests.{ltb-true, le-leb, le-ltb}
@@ -18,18 +18,17 @@ use Rattle.definition.specs.declared.Unfinished.{Unfinished}
 use Rattle.definition.specs.Prog.{Prog, Then, endWord, headWord, enterExpr, enterBlock}
 use Rattle.definition.specs.Nodes.{allocNodeFrom, allocNode, closeNodeAt, closeNode, updateKind, pushChild}
 use Rattle.definition.specs.Expressions.{unwrapOrError, tryParseExpr, parseExpr, blockHere, allowsStructLiteral}
-use Rattle.definition.specs.Abstract as Abstract
-use Rattle.definition.specs.Abstract.{Seen, newNode, written, adopted, World, Fate, ok, fail, deep, bindA, moveTo, withStore, withLink, ReadersA, evalA}
+use Rattle.definition.specs.Abstract.{newNode, written, World, Fate, ok, bindA, moveTo, withStore, withLink}
 use Rattle.words.specs.Laws.{high-pack, low-pack}
 use Rattle.definition.specs.Encodes.{written-length, adopted-length, both-true}
-use Rattle.chart.specs.Row.{Lexeme, RowToken, token, begins}
+use Rattle.chart.specs.Row.{RowToken, begins}
 use Rattle.chart.specs.Tree.{Value, flags, Tree, Trees, node, none, _▸_, _⊕_}
-use Rattle.chart.specs.Parser.{Outcome, bind, try, nothing, failed}
+use Rattle.chart.specs.Parser.{Outcome, bind, try, nothing}
 use Rattle.chart.specs.Parser as Chart
 use Rattle.tree.specs.Stored.{said, isName}
-use Rattle.tree.specs.Grown.{size, sizes, Built, Growing, opened, closed, push, ended, rekinded}
+use Rattle.tree.specs.Grown.{Built, Growing, opened, closed, push, ended, rekinded}
 use Rattle.agreement.specs.Run.{run}
-use Rattle.agreement.specs.Sim.{Sim, gives, fails, sinks, Made, made, then, call, Setting, runs, Fits, unexpected-rule}
+use Rattle.agreement.specs.Sim.{Sim, gives, fails, sinks, Made, then, call, Setting, runs, Fits, unexpected-rule}
 
 -- A kind whose payload is flags or an operator, where both fit their parts.
 unfoldable pub isFlagged : ℕ → ℕ → Bool

@@ -1,14 +1,13 @@
 -- String literals.
-use mathlib.Core.Path.{_≡_, refl, sym, _∙_, ap, subst}
+use mathlib.Core.Path.{_≡_, refl, sym, _∙_, ap}
 use mathlib.Core.Bool.{Bool, true, false, cond, _||_, true≢false, false≢true}
 use mathlib.Core.Option.{Option}
 use mathlib.Core.Option as Option
 use mathlib.Core.List.{List, [], _∷_, _++_}
 use Prim.Native.Nat.{ℕ, zero, suc, _+_, _<_, _≤_, _^_}
 use native.Mathlib.Omega.{arith}
-use borrow.Author.Tests.{eqb-true}
 use lib.Dec.{eqb, lit<}
-use lib.ListN.{length, drop, length-append}
+use lib.ListN.{length, length-append}
 use Rattle.words.specs.Token
 use Rattle.words.specs.Token.{lexError}
 use Rattle.words.specs.ErrorToken
@@ -16,23 +15,20 @@ use Rattle.words.specs.declared.token.LexError.the-variants.{Is, Nothing}
 use Rattle.words.specs.Node
 use Rattle.words.specs.Words.{nodeKind, nodePayload, nodeHead}
 use Rattle.literals.specs.Spelling as Source
-use Rattle.literals.specs.Numbers.{digits, numberValue, limbs}
 use Rattle.literals.specs.Strings.{Event, byte, report, bytesOf, decodeString, decodeHex, stringValue}
-use Rattle.definition.specs.declared.Unfinished.{Unfinished}
-use Rattle.definition.specs.Prog.{Turn, again, stop, Prog, Then, Give, Branch, Loop, peek, pass, position, here, spelling, value}
-use Rattle.definition.specs.Nodes.{Radix, radixOf, tryParseNumLiteral, allocLastTokenAsNode, allocNodeFrom, closeNodeAt, skipTriviaStart}
+use Rattle.definition.specs.Prog.{Turn, again, stop, Then, Give, Branch, spelling, value}
+use Rattle.definition.specs.Nodes.{allocNodeFrom, closeNodeAt, skipTriviaStart}
 use Rattle.definition.specs.Strings.{emitEvents, StringBuf, decodeToken, stringTurn, tryParseStringLiteral}
 use Rattle.definition.specs.Abstract.{Seen, Node, World, Fate, ok, moveTo, withValue}
-use Rattle.chart.specs.Row.{Lexeme, RowToken, token, begins}
-use Rattle.chart.specs.Tree.{flags, number, bytes, Tree, Trees, node, none, _▸_, _⊕_, numeral, decoded, decodedHex, quiet, stringTree}
+use Rattle.chart.specs.Row.{Lexeme, RowToken, token}
+use Rattle.chart.specs.Tree.{bytes, Trees, node, none, decoded, decodedHex, quiet, stringTree}
 use Rattle.chart.specs.Parser.{Outcome, if, on, bind, failed, prepend, readStrings}
 use Rattle.chart.specs.Parser as Chart
 use Rattle.tree.specs.Stored.{said, isName}
-use Rattle.tree.specs.Grown.{Built}
-use Rattle.tree.specs.Values.{says-more, number-read, string-read, AreBytes}
+use Rattle.tree.specs.Values.{string-read, AreBytes}
 use Rattle.agreement.specs.Run.{run, turns}
-use Rattle.agreement.specs.Sim.{Sim, gives, fails, sinks, Made, made, mapped, call, call-turns, Setting, runs, lexemeOf, Fit, Fits, Taken, cost, first-clean, peek-rule, pass-rule}
-use Rattle.agreement.specs.Literals.{head-parts, number-few, string-bytes-same, string-quiet-same, hex-bytes-same, hex-quiet-same, string-few, hex-string-few, are-bytes-append, string-are-bytes, hex-are-bytes, string-value-few}
+use Rattle.agreement.specs.Sim.{Sim, gives, fails, Made, made, mapped, call-turns, Setting, runs, lexemeOf, Fit, Fits, cost, first-clean, peek-rule, pass-rule}
+use Rattle.agreement.specs.Literals.{head-parts, string-bytes-same, string-quiet-same, hex-bytes-same, hex-quiet-same, string-few, hex-string-few, are-bytes-append, string-are-bytes, hex-are-bytes, string-value-few}
 use Rattle.agreement.specs.Steps.{Done, alloc-rule, close-at}
 use Rattle.agreement.specs.Numbers.{built-before}
 

@@ -1,40 +1,39 @@
 -- Structs, tuple types and struct literals.
-use mathlib.Core.Path.{_≡_, refl, sym, _∙_, ap}
-use mathlib.Core.Bool.{Bool, true, false, _&&_, _||_, true≢false, false≢true}
+use mathlib.Core.Path.{_≡_, refl, sym, _∙_}
+use mathlib.Core.Bool.{Bool, true, false, _||_, true≢false, false≢true}
 use mathlib.Core.Option.{Option}
 use mathlib.Core.Option as Option
 use mathlib.Core.List.{List, [], _∷_}
-use Prim.Native.Nat.{ℕ, zero, suc, _+_, _<_}
+use Prim.Native.Nat.{ℕ, zero, suc, _<_}
 use native.Mathlib.Omega.{arith}
 use borrow.Author.Tests.{eqb-true}
-use lib.Dec.{eqb, ltb}
+use lib.Dec.{eqb}
 use lib.ListN.{length}
 use Rattle.words.specs.Token
 use Rattle.words.specs.Node
 use Rattle.words.specs.Flag
-use Rattle.words.specs.Report
 use Rattle.words.specs.Words.{nodeHead}
 use Rattle.definition.specs.declared.Mode.the-variants.{AllowAll, NoPostFixCurlyBrace}
 use Rattle.definition.specs.declared.Unfinished.{Unfinished}
-use Rattle.definition.specs.Prog.{Turn, again, stop, Prog, Then, Give, Branch, Loop, position, peek, before, emitAndMark}
-use Rattle.definition.specs.Tokens.{check, eat, expect, expectCheckRecovery, emitUnexpected, contains, parseDelimited}
+use Rattle.definition.specs.Prog.{Turn, again, stop, Prog, Then, Give, Branch, Loop, peek}
+use Rattle.definition.specs.Tokens.{expect, expectCheckRecovery, contains}
 use Rattle.definition.specs.Nodes.{allocNodeFrom, allocNode, closeNode, pushChild, expectIdent}
 use Rattle.definition.specs.Nodes as Nodes
-use Rattle.definition.specs.Expressions.{parseFunctionSignatureAndBody, parseMethodDef, Members, members, parseStructField, fieldTurn, methodTurn, noMemberTurn, memberTurn, parseStructDef, parseTupleType, exprElement, fieldAssign, structLit, pushOption, tryParseExpr}
-use Rattle.definition.specs.Abstract.{Seen, World, Fate, ok, moveTo}
+use Rattle.definition.specs.Expressions.{parseFunctionSignatureAndBody, parseMethodDef, Members, members, parseStructField, fieldTurn, methodTurn, noMemberTurn, memberTurn, parseStructDef, parseTupleType, exprElement, fieldAssign, pushOption, tryParseExpr}
+use Rattle.definition.specs.Abstract.{World, Fate, ok, moveTo}
 use Rattle.chart.specs.Row.{Lexeme, RowToken, token, begins}
 use Rattle.chart.specs.Tree.{flags, Tree, Trees, node, none, _▸_, _⊕_, branch, named}
-use Rattle.chart.specs.Parser.{Outcome, if, on, bind, try, nothing, failed, readSignature, readMethods, readStructBody, readStruct, readFields, readList}
+use Rattle.chart.specs.Parser.{Outcome, if, on, bind, failed, readSignature, readMethods, readStructBody, readFields, readList}
 use Rattle.chart.specs.Parser as Chart
 use Rattle.tree.specs.Stored.{isName}
-use Rattle.tree.specs.Grown.{⊕-assoc, ⊕-none}
+use Rattle.tree.specs.Grown.{⊕-none}
 use Rattle.agreement.specs.Run.{run, turns}
-use Rattle.agreement.specs.Sim.{Sim, gives, fails, sinks, Made, made, mapped, call, Setting, runs, lexemeOf, Fits, Taken, peek-rule, eat-rule, eat-hit, eat-miss, check-rule, check-is, check-either, eof-rule, eof-either, expect-rule, expect-hit, expect-miss, recover-rule, unexpected-rule}
+use Rattle.agreement.specs.Sim.{Sim, gives, fails, Made, made, mapped, call, Setting, runs, lexemeOf, Fits, peek-rule, eat-hit, eat-miss, check-rule, check-is, check-either, eof-rule, expect-rule, expect-hit, expect-miss, recover-rule, unexpected-rule}
 use Rattle.agreement.specs.Outcomes.{on-none, on-yes, bind-try}
 use Rattle.agreement.specs.Steps.{isFlagged, Open, Done, Agrees, alloc-rule, alloc-here, push-rule, close-branch, expr-rule, try-rule}
 use Rattle.agreement.specs.Leaves.{nameTree, ident-rule, expect-ident-rule}
 use Rattle.agreement.specs.Branches.{After}
-use Rattle.agreement.specs.Lists.{Longer, longer, Elements, onward, list-rule, list-expect, expressions}
+use Rattle.agreement.specs.Lists.{Longer, longer, Elements, list-expect, expressions}
 use Rattle.agreement.specs.Definitions.{signature-read}
 
 module _ (s : Setting) (a : Agrees s) where

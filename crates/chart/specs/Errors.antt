@@ -1,15 +1,12 @@
 -- No rule holds an error token: "No rule holds an error token" (01, The wall chart), as a law of the grammar.
-use mathlib.Core.Path.{_≡_, refl, sym, _∙_, ap, subst}
+use mathlib.Core.Path.{_≡_, refl, sym, subst}
 use mathlib.Core.Bool.{Bool, true, false, cond}
 use mathlib.Core.List.{List, [], _∷_}
 use Prim.Native.Nat.{ℕ, suc}
-use native.Mathlib.Omega.{arith}
 use borrow.Author.Tests.{eqb-true}
 use lib.Dec.{eqb}
-use Rattle.words.specs.Token
 use Rattle.words.specs.Token.{lexError}
-use Rattle.words.specs.declared.token.LexError.{LexError}
-use Rattle.words.specs.declared.token.LexError.the-variants.{Is, Nothing}
+use Rattle.words.specs.declared.token.LexError.the-variants.{Nothing}
 use Rattle.chart.specs.Row.{Lexeme, RowToken, token}
 use Rattle.chart.specs.Tree.{Trees}
 use Rattle.chart.specs.Chart

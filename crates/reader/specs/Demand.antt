@@ -1,30 +1,29 @@
 -- Demand 3: reading and the chart never disagree.
-use mathlib.Core.Path.{_≡_, refl, sym, _∙_, ap, subst}
+use mathlib.Core.Path.{_≡_, refl, _∙_, ap}
 use mathlib.Core.Logic.{_⊎_, inl, inr, _↔_}
 use mathlib.Core.Option.{Option}
 use mathlib.Core.Option as Option
 use mathlib.Core.List.{List, [], _∷_, map}
-use Prim.Native.Nat.{ℕ, _+_, _≤_, _<_, _^_}
+use Prim.Native.Nat.{ℕ, _<_}
 use native.Mathlib.Omega.{arith}
-use lib.ListN.{length, getD, take}
+use lib.ListN.{length, take}
 use Rattle.words.specs.Refusal
 use Rattle.words.specs.Answer.{Answer, done, refused}
 use Rattle.lexer.specs.Lex.{lexed, lexedWords}
 use Rattle.lexer.specs.Lexer.{tokensOf, word}
-use Rattle.definition.specs.Prog.{Memory}
-use Rattle.definition.specs.Parse.{Parsed, parsed, maxDepth, tokenLimit}
-use Rattle.definition.specs.Abstract.{Seen, rowFrom, World, Fate, ok, fail, deep, parsedA}
-use Rattle.definition.specs.Simulates.{Nodes, Values, Outcome, is-read, has-reports, is-late, is-deep, is-short, is-short-deep, simulates, Enough, answered, too-deep}
+use Rattle.definition.specs.Parse.{Parsed, parsed, maxDepth}
+use Rattle.definition.specs.Abstract.{rowFrom, World, Fate, ok, deep, parsedA}
+use Rattle.definition.specs.Simulates.{Outcome, is-read, has-reports, is-late, is-deep, is-short, is-short-deep, simulates, Enough, answered, too-deep}
 use Rattle.definition.specs.Ends.{Whole, whole, read-whole}
 use Rattle.chart.specs.Row.{RowToken, row}
-use Rattle.chart.specs.Tree.{Tree, Trees, none, _▸_}
+use Rattle.chart.specs.Tree.{Trees, none, _▸_}
 use Rattle.chart.specs.Chart.{Derives, file}
 use Rattle.chart.specs.Parser.{parse}
 use Rattle.chart.specs.Parser as Chart
 use Rattle.chart.specs.Complete.{derived, complete, one-tree}
 use Rattle.chart.specs.Errors.{NoErrors, derived-clean}
 use Rattle.tree.specs.Stored.{stored}
-use Rattle.tree.specs.Grown.{sizes, Built}
+use Rattle.tree.specs.Grown.{sizes}
 use Rattle.tree.specs.Holds.{file-held}
 use Rattle.tree.specs.Linked.{LinkedOnce, linked-once}
 use Rattle.tree.specs.Rows.{Clean}

@@ -31,8 +31,8 @@ use Rattle.definition.specs.Parse.{tokenLimit}
 use Rattle.definition.specs.Abstract.{Seen, good, bad, stray, seen, Passed, none-passed, one-passed, ReadersA}
 use Rattle.definition.specs.Abstract.{rowFrom as seenFrom}
 use Rattle.definition.specs.Ends.{AtEnd, nothing-left, eof-left}
-use Rattle.chart.specs.Row.{Lexeme, RowToken, token, isBlank, rowFrom, row}
-use Rattle.chart.specs.Errors.{NoErrors, no-errors, no-error-more}
+use Rattle.chart.specs.Row.{RowToken, token, isBlank, rowFrom, row}
+use Rattle.chart.specs.Errors.{NoErrors, no-error-more}
 use Rattle.chart.specs.Parser.{Readers}
 use Rattle.tree.specs.Rows.{Clean, clean, also, lexeme, lexemes, rows-same}
 use Rattle.agreement.specs.Sim.{Setting, cost, Ahead, eof-ahead, next}
