@@ -17,7 +17,7 @@ use Rattle.utf8.specs.Laws.{bad-offset}
 use Rattle.utf8.specs.declared.Way.{Way}
 use Rattle.utf8.specs.declared.Checked.{Checked}
 use Rattle.utf8.specs.declared.Checked.the-variants.{Good, Bad}
-use Rattle.lexer.specs.Lexer.{tokensOf, word}
+use Rattle.tokens.specs.Lexer.{tokensOf, word}
 use Rattle.lexer.specs.Lex.{longestText, notUtf8, lexed, lexedWords, startOf, spellingOf}
 use Rattle.lexer.specs.Walk.{cleared, tokens-count}
 
