@@ -4,7 +4,7 @@ ghost use mathlib.Core.List.{_++_, map};
 ghost use Prim.Native.Nat.{_-_, _≤_, _<_};
 ghost use lib.ListN.{length, set, take, replicate};
 ghost use lib.Seq.{sets};
-ghost use Rattle.tokens.specs.Lexer.{tokensOf, word};
+ghost use Rattle.scan.specs.Lexer.{tokensOf, word};
 ghost use Rattle.lexer.specs.Lex.{answer, lexed, lexedWords, notUtf8, startOf, spellingOf};
 use utf8::Checked;
 use utf8::Way;
@@ -30,7 +30,7 @@ fn put(words: &mut [u32], n: usize, word: u32)
 }
 
 // The words from the n-th on set to 0.
-fn clear(words: &mut [u32], n: usize)
+pub fn clear(words: &mut [u32], n: usize)
     ensures { λ _. ⌜ now (words .exit) ≡ take n (now (words .entry)) ++ replicate (length (now (words .entry)) - n) 0 ⌝ }
 {
     let mut i = n;

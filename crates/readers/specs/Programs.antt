@@ -15,8 +15,8 @@ use Rattle.definition.specs.Statements.{whileStmt, letFlags, returnStmt, assign
 use Rattle.definition.specs.Statements.{StmtResult as Result}
 use Rattle.stream.specs.Delimited.{elements}
 use Rattle.readers.specs.Same.{Ways, over, way, tokensOf, taken}
-use Rattle.parts.specs.Parts.{addElement, closeOperand, closeIf, closeBlock, pushClose, endStmt}
-use Rattle.steps.specs.Steps.{Going, Right, Prefix, Goes-on, Bracket, Parameter, Elsewise, Afterwards, eatFirst, prefixed, closeUnary, infixed, member, call, literalOf, nowhere, postfixKind, simple, empty, opened, parenStart, goes, parenComma, openList, endList, endNode, endBody, openMethod, missing, anyTyped, wants, paramHead, openBody, openNamed, openCall, noElse, elseIf, elseLast, elseKind, openArms, openLet, letEquals, endLet, openAssign, assigns, whole, openBlock}
+use Rattle.answers.specs.Parts.{addElement, closeOperand, closeIf, closeBlock, pushClose, endStmt}
+use Rattle.answers.specs.Steps.{Going, Right, Prefix, Goes-on, Bracket, Parameter, Elsewise, Afterwards, eatFirst, prefixed, closeUnary, infixed, member, call, literalOf, nowhere, postfixKind, simple, empty, opened, parenStart, goes, parenComma, openList, endList, endNode, endBody, openMethod, missing, anyTyped, wants, paramHead, openBody, openNamed, openCall, noElse, elseIf, elseLast, elseKind, openArms, openLet, letEquals, endLet, openAssign, assigns, whole, openBlock}
 
 -- An expression that no `{` goes on from, and a block.
 abbrev pub guarded : Unfinished → Prog Unfinished

@@ -12,7 +12,7 @@ use Rattle.definition.specs.Tokens.{eat, ifEat_then_else_}
 use Rattle.reading.specs.declared.Reading.{Reading}
 use Rattle.reading.specs.Does.{Does, run}
 use Rattle.stream.specs.Delimited.{alike, bind-bind}
-use Rattle.steps.specs.Steps.{eatFirst}
+use Rattle.answers.specs.Steps.{eatFirst}
 
 pub bind-done : {A : Type 0} (x : Out A) → bind x (λ a s m. done a s m) ≡ x
 bind-done (done a s m) = refl

@@ -14,17 +14,17 @@ use Rattle.words.specs.Token as TokenKind
 use Rattle.utf8.specs.Utf8.{characterAt}
 use Rattle.utf8.specs.declared.Character.{Character}
 use Rattle.utf8.specs.declared.Character.the-variants.{Is, Nothing}
-use Rattle.tokens.specs.declared.Token.{Token}
-use Rattle.tokens.specs.Bytes.{ascii, Class, digit, upper, lower, identStart, identPart, blank, isDigit}
-use Rattle.tokens.specs.Lexer.{Lexeme, lexeme, more, from, run, spelled, classed, tokenAt, lineComment, blockComment, number, string, Match, longest, noMatch, finish, rule, punctuation, plain, invalidChar}
-use Rattle.tokens.specs.Longest.{keywordOf, run-length}
+use Rattle.scan.specs.declared.Token.{Token}
+use Rattle.scan.specs.Bytes.{ascii, Class, digit, upper, lower, identStart, identPart, blank, isDigit}
+use Rattle.scan.specs.Lexer.{Lexeme, lexeme, more, from, run, spelled, classed, tokenAt, lineComment, blockComment, number, string, Match, longest, noMatch, finish, rule, punctuation, plain, invalidChar}
+use Rattle.scan.specs.Longest.{keywordOf, run-length}
 use Rattle.tokens.specs.First
 use Rattle.tokens.specs.First.{hexPrefix, binPrefix, hex-token, word-token, number-token, blank-token, quote-token, at-builtin, at-error, slash-line, slash-block, slash-alone, other-token}
-use Rattle.tokens.specs.Fits.{spelled-within, longest-within}
+use Rattle.scan.specs.Fits.{spelled-within, longest-within}
 use Rattle.tokens.specs.declared.Spelled.{Spelled}
 use Rattle.tokens.specs.declared.Spelled.the-variants.{Is as Is′, Nothing as Nothing′}
 use Rattle.tokens.specs.Cases.{matchOf}
-use Rattle.tokens.specs.Laws.{ended, rest-cons, from-more, lt-or-le}
+use Rattle.scan.specs.Laws.{ended, rest-cons, from-more, lt-or-le}
 
 and-true : (t : Bool) → t ≡ (t && true)
 and-true true = refl

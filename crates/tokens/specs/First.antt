@@ -9,9 +9,9 @@ use borrow.Author.Tests.{ne-eqb, lt-ltb, le-ltb, leb-true, ltb-true, eqb-true}
 use lib.Dec.{eqb, leb, ltb}
 use lib.ListN.{length, getD, drop, take}
 use Rattle.words.specs.Token as TokenKind
-use Rattle.tokens.specs.Bytes.{ascii, Class, none, within, digit, upper, lower, identStart, identPart, blank, isDigit}
-use Rattle.tokens.specs.Lexer.{Lexeme, lexeme, more, plain, Rule, token, regex, run, spelled, classed, matched, callback, Match, longest, Fixed, rule, punctuation, keywords, others, rules, noMatch, finish, tokenAt, string, number, blockComment, lineComment, invalidChar}
-use Rattle.tokens.specs.Longest.{keep, best, took, took-if, longest-append, differs, apart, pass, and-both, match, keywordOf, word-longest, orIdentifier, wordlies, spelled-split}
+use Rattle.scan.specs.Bytes.{ascii, Class, none, within, digit, upper, lower, identStart, identPart, blank, isDigit}
+use Rattle.scan.specs.Lexer.{Lexeme, lexeme, more, plain, Rule, token, regex, run, spelled, classed, matched, callback, Match, longest, Fixed, rule, punctuation, keywords, others, rules, noMatch, finish, tokenAt, string, number, blockComment, lineComment, invalidChar}
+use Rattle.scan.specs.Longest.{keep, best, took, took-if, longest-append, differs, apart, pass, and-both, match, keywordOf, word-longest, orIdentifier, wordlies, spelled-split}
 
 exclude : (t : Bool) → (t ≡ true → ⊥) → t ≡ false
 exclude true f = absurd (f refl)

@@ -9,8 +9,8 @@ use lib.Dec.{eqb, ltb}
 use lib.ListN.{length, getD}
 use Rattle.tokens.specs.declared.Spelled.{Spelled}
 use Rattle.tokens.specs.declared.Spelled.the-variants.{Is, Nothing}
-use Rattle.tokens.specs.Lexer.{Match, longest, matched, spelled, noMatch, Fixed, rule, punctuation, plain}
-use Rattle.tokens.specs.Longest.{keep, took, took-if, match, withHead, and-both, Outside, holds, covered, apart, pass, outside, token-miss}
+use Rattle.scan.specs.Lexer.{Match, longest, matched, spelled, noMatch, Fixed, rule, punctuation, plain}
+use Rattle.scan.specs.Longest.{keep, took, took-if, match, withHead, and-both, Outside, holds, covered, apart, pass, outside, token-miss}
 use Rattle.tokens.specs.Cases.{matchOf}
 
 -- the first spelling of two bytes that ends in `n`, else another

@@ -5,23 +5,15 @@ ghost use mathlib.Core.Bool.{true, false, cond};
 ghost use Prim.Native.Nat.{_+_, _<_, _≤_};
 ghost use lib.Dec.{eqb};
 ghost use lib.ListN.{length, drop, getD};
-ghost use Rattle.tokens.specs.Bytes.{digit, identStart, blank, isDigit};
-ghost use Rattle.tokens.specs.Lexer.{from, spelled, classed, tokenAt, longest, noMatch, rule, punctuation};
-ghost use Rattle.tokens.specs.Longest.{same, keywordOf, withHead};
+ghost use Rattle.scan.specs.Bytes.{digit, identStart, blank, isDigit};
+ghost use Rattle.scan.specs.Lexer.{from, spelled, classed, tokenAt, longest, noMatch, rule, punctuation};
+ghost use Rattle.scan.specs.Longest.{same, keywordOf, withHead};
 ghost use Rattle.tokens.specs.Cases.{matchOf};
 ghost use Rattle.tokens.specs.At.{Other};
 ghost use Rattle.tokens.specs.Pairs.{pairOf, aloneOf};
-
-mod scan;
-
+use scan::Token;
 use utf8::Character;
 use words::token;
-
-// A token: its kind and the offset where it ends.
-pub struct Token {
-    pub kind: u32,
-    pub end: usize,
-}
 
 // What a fixed spelling is: a kind and its length in bytes.
 pub(crate) enum Spelled {

@@ -3,8 +3,8 @@ use mathlib.Core.Path.{_≡_}
 use Prim.Native.Nat.{_-_, _+_}
 use native.Mathlib.Nat.{add-zero}
 use lib.ListN.{length, drop}
-use Rattle.tokens.specs.Lexer.{spelled}
-use Rattle.tokens.specs.Laws.{spelled-over, spelled-stop, spelled-next, spelled-long}
+use Rattle.scan.specs.Lexer.{spelled}
+use Rattle.scan.specs.Laws.{spelled-over, spelled-stop, spelled-next, spelled-long}
 use borrow.Author.Needs.{needs}
 use Rattle.tokens.proofs.begins_at.Statement.{statement}
 use Rattle.tokens.proofs.begins_at.Tie as tie

@@ -1,9 +1,9 @@
 -- `double` meets its contract: at each first byte the table is computed.
 use mathlib.Core.Path.{refl}
 use Rattle.words.specs.Token as TokenKind
-use Rattle.tokens.specs.Bytes.{ascii}
-use Rattle.tokens.specs.Lexer.{punctuation}
-use Rattle.tokens.specs.Longest.{end, next}
+use Rattle.scan.specs.Bytes.{ascii}
+use Rattle.scan.specs.Lexer.{punctuation}
+use Rattle.scan.specs.Longest.{end, next}
 use Rattle.tokens.specs.Pairs.{double-at, double-none, pair-more}
 use borrow.Author.Needs.{needs}
 use Rattle.tokens.proofs.double.Statement.{statement}

@@ -1,9 +1,9 @@
 -- `keyword_from_r` meets its contract: only the keywords with the word's first letter count.
 use mathlib.Core.Path.{refl}
 use lib.Dec.{lit<}
-use Rattle.tokens.specs.Bytes.{ascii}
-use Rattle.tokens.specs.Lexer.{keywords}
-use Rattle.tokens.specs.Longest.{keyword-at, kind-none, kind-more, keyword-none, next, lies-above}
+use Rattle.scan.specs.Bytes.{ascii}
+use Rattle.scan.specs.Lexer.{keywords}
+use Rattle.scan.specs.Longest.{keyword-at, kind-none, kind-more, keyword-none, next, lies-above}
 use borrow.Author.Needs.{needs}
 use Rattle.tokens.proofs.keyword_from_r.Statement.{statement}
 use Rattle.tokens.proofs.keyword_from_r.Tie as tie

@@ -1,9 +1,9 @@
 -- `keyword_to_f` meets its contract: only the keywords with the word's first letter count.
 use mathlib.Core.Path.{refl}
 use lib.Dec.{lit<}
-use Rattle.tokens.specs.Bytes.{ascii}
-use Rattle.tokens.specs.Lexer.{keywords}
-use Rattle.tokens.specs.Longest.{keyword-at, kind-none, kind-more, keyword-none, next, lies-apart}
+use Rattle.scan.specs.Bytes.{ascii}
+use Rattle.scan.specs.Lexer.{keywords}
+use Rattle.scan.specs.Longest.{keyword-at, kind-none, kind-more, keyword-none, next, lies-apart}
 use borrow.Author.Needs.{needs}
 use native.Mathlib.Omega.{arith}
 use Rattle.tokens.proofs.keyword_to_f.Statement.{statement}

@@ -2,8 +2,8 @@
 use mathlib.Core.Path.{_≡_}
 use Prim.Native.Nat.{_-_}
 use lib.ListN.{length, drop}
-use Rattle.tokens.specs.Longest.{same}
-use Rattle.tokens.specs.Laws.{same-over, same-stop, same-next, same-unlike}
+use Rattle.scan.specs.Longest.{same}
+use Rattle.scan.specs.Laws.{same-over, same-stop, same-next, same-unlike}
 use borrow.Author.Needs.{needs}
 use Rattle.tokens.proofs.same.Statement.{statement}
 use Rattle.tokens.proofs.same.Tie as tie

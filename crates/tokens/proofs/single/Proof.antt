@@ -1,8 +1,8 @@
 -- `single` meets its contract: at each byte the table is computed.
 use mathlib.Core.Path.{refl}
-use Rattle.tokens.specs.Bytes.{ascii}
-use Rattle.tokens.specs.Lexer.{punctuation}
-use Rattle.tokens.specs.Longest.{end, next}
+use Rattle.scan.specs.Bytes.{ascii}
+use Rattle.scan.specs.Lexer.{punctuation}
+use Rattle.scan.specs.Longest.{end, next}
 use Rattle.tokens.specs.Pairs.{single-at, single-none}
 use Rattle.tokens.proofs.single.Statement.{statement}
 use Rattle.tokens.proofs.single.Tie as tie

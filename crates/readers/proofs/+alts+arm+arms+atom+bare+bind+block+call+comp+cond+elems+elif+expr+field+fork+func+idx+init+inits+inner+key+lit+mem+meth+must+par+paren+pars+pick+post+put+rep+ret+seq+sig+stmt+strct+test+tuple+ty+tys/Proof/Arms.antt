@@ -10,7 +10,7 @@ use Rattle.definition.specs.Tokens.{eof}
 use Rattle.definition.specs.Expressions.{armTurn}
 use Rattle.reading.specs.Does.{gives, when-true, when-false, Turns, first-turn, next-turn, last-turn, no-turn-left, refused-turn}
 use Rattle.stream.specs.Delimited.{listEnds}
-use Rattle.parts.specs.Rules.{one-of}
+use Rattle.answers.specs.Rules.{one-of}
 use borrow.Author.Needs.{needs}
 use native.Mathlib.Omega.{arith}
 use Rattle.readers.proofs.+alts+arm+arms+atom+bare+bind+block+call+comp+cond+elems+elif+expr+field+fork+func+idx+init+inits+inner+key+lit+mem+meth+must+par+paren+pars+pick+post+put+rep+ret+seq+sig+stmt+strct+test+tuple+ty+tys.Lts-arms as lts
