@@ -22,7 +22,7 @@ use Rattle.answers.specs.Parts.{isSome, oneOf, onlyEat, onlyCheck, recov
 -- A part of two steps stands for its steps.
 pub use Rattle.stream.specs.Delimited.{regroup as two}
 
-bind-same : {A B : Type 0} (x : Out A) (f g : A → State → Memory → Out B) → ((a : A) (s : State) (m : Memory) → f a s m ≡ g a s m) → bind x f ≡ bind x g
+pub bind-same : {A B : Type 0} (x : Out A) (f g : A → State → Memory → Out B) → ((a : A) (s : State) (m : Memory) → f a s m ≡ g a s m) → bind x f ≡ bind x g
 bind-same (done a s m) f g e = e a s m
 bind-same (refused number place) f g e = refl
 

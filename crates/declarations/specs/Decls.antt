@@ -14,7 +14,7 @@ use Rattle.definition.specs.Expressions.{parseExpr}
 use Rattle.definition.specs.Declarations.{parseImportDecl, parseConstDecl, noDecl, skipUnlessEof, parseDecl}
 use Rattle.stream.specs.Delimited.{bind-bind}
 use Rattle.answers.specs.Steps.{eatFirst}
-use Rattle.readers.specs.Same.{Same, Ways, over, way, tokensOf, taken, then-same, ways-same}
+use Rattle.answers.specs.Same.{Same, Ways, over, way, tokensOf, taken, then-same, ways-same}
 
 abbrev pub openConst : ℕ → Prog Unfinished
 openConst start = do

@@ -12,7 +12,7 @@ ghost use Rattle.reading.specs.Does.{Does};
 ghost use Rattle.stream.specs.Delimited.{elements};
 ghost use Rattle.cst.specs.Cst.{maybe};
 ghost use Rattle.answers.specs.Parts.{element, stmtResult};
-ghost use Rattle.readers.specs.Programs.{guarded, branching, indexed, typing, postfixSteps};
+ghost use Rattle.answers.specs.Programs.{guarded, branching, indexed, typing, postfixSteps};
 ghost use Rattle.readers.specs.Readers.{tooDeep, fieldOrNone, armHead, armRest, armTurnOf, elseIfs, found, wholeStmt};
 use answers::After;
 use answers::Brackets;

@@ -1,7 +1,7 @@
 -- `parse_const_decl` meets its contract.
 use mathlib.Core.Path.{_∙_}
 use Rattle.reading.specs.Does.{then}
-use Rattle.readers.specs.Same.{regrouped}
+use Rattle.answers.specs.Same.{regrouped}
 use Rattle.declarations.specs.Decls.{const-same}
 use borrow.Author.Needs.{needs}
 use Rattle.declarations.proofs.parse_const_decl.Statement.{statement}

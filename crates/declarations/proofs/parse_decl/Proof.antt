@@ -4,7 +4,7 @@ use Rattle.definition.specs.Tokens.{skipUntilDeclStart}
 use Rattle.definition.specs.Declarations.{noDecl}
 use Rattle.reading.specs.Does.{then}
 use Rattle.cst.specs.Laws.{position-is}
-use Rattle.readers.specs.Same.{regrouped, taken-none}
+use Rattle.answers.specs.Same.{regrouped, taken-none}
 use Rattle.declarations.specs.Decls.{declWays, decl-same}
 use borrow.Author.Needs.{needs}
 use native.Mathlib.Omega.{arith}

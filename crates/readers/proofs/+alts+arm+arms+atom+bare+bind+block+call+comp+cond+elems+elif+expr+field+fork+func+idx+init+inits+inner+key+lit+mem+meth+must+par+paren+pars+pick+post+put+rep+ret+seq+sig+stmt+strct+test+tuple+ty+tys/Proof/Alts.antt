@@ -9,8 +9,8 @@ use Rattle.definition.specs.Expressions.{blockHere, elseTurn}
 use Rattle.reading.specs.Does.{then, gives, Turns, first-turn, next-turn, last-turn, no-turn-left, refused-turn}
 use Rattle.cst.specs.Laws.{position-is}
 use Rattle.readers.specs.Readers.{elseIfs}
-use Rattle.readers.specs.Same.{regrouped}
-use Rattle.readers.specs.Segments.{else-same}
+use Rattle.answers.specs.Same.{regrouped}
+use Rattle.answers.specs.Segments.{else-same}
 use borrow.Author.Needs.{needs}
 use native.Mathlib.Omega.{arith}
 use Rattle.readers.proofs.+alts+arm+arms+atom+bare+bind+block+call+comp+cond+elems+elif+expr+field+fork+func+idx+init+inits+inner+key+lit+mem+meth+must+par+paren+pars+pick+post+put+rep+ret+seq+sig+stmt+strct+test+tuple+ty+tys.Lts-alts as lts

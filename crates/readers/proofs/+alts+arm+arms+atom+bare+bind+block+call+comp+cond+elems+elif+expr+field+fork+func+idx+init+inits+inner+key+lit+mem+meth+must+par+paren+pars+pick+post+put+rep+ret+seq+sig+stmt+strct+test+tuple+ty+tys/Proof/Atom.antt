@@ -5,9 +5,9 @@ use Rattle.definition.specs.Expressions.{eagerFunction}
 use Rattle.reading.specs.Does.{then, gives}
 use Rattle.cst.specs.Laws.{position-is}
 use Rattle.answers.specs.Rules.{or-some, or-none}
-use Rattle.readers.specs.Programs.{branching, waysOf, operandWays}
-use Rattle.readers.specs.Same.{regrouped, taken-none}
-use Rattle.readers.specs.Segments.{operand-same}
+use Rattle.answers.specs.Programs.{branching, waysOf, operandWays}
+use Rattle.answers.specs.Same.{regrouped, taken-none}
+use Rattle.answers.specs.Segments.{operand-same}
 use borrow.Author.Needs.{needs}
 use native.Mathlib.Omega.{arith}
 use Rattle.readers.proofs.+alts+arm+arms+atom+bare+bind+block+call+comp+cond+elems+elif+expr+field+fork+func+idx+init+inits+inner+key+lit+mem+meth+must+par+paren+pars+pick+post+put+rep+ret+seq+sig+stmt+strct+test+tuple+ty+tys.Lts-atom as lts

@@ -2,8 +2,8 @@
 use Prim.Native.Nat.{ℕ}
 use mathlib.Core.Path.{_∙_}
 use Rattle.reading.specs.Does.{then}
-use Rattle.readers.specs.Same.{regrouped}
-use Rattle.readers.specs.Segments.{block-same}
+use Rattle.answers.specs.Same.{regrouped}
+use Rattle.answers.specs.Segments.{block-same}
 use Rattle.readers.specs.Level.{no-block, block-level}
 use borrow.Author.Needs.{needs}
 use native.Mathlib.Omega.{arith}

@@ -12,15 +12,12 @@ use Rattle.definition.specs.Tokens.{eat, ifEat_then_else_}
 use Rattle.reading.specs.declared.Reading.{Reading}
 use Rattle.reading.specs.Does.{Does, run}
 use Rattle.stream.specs.Delimited.{alike, bind-bind}
 use Rattle.answers.specs.Steps.{eatFirst}
+use Rattle.answers.specs.Rules.{bind-same}
 
 pub bind-done : {A : Type 0} (x : Out A) → bind x (λ a s m. done a s m) ≡ x
 bind-done (done a s m) = refl
 bind-done (refused number place) = refl
-
-bind-same : {A B : Type 0} (x : Out A) (f g : A → State → Memory → Out B) → ((a : A) (s : State) (m : Memory) → f a s m ≡ g a s m) → bind x f ≡ bind x g
-bind-same (done a s m) f g e = e a s m
-bind-same (refused number place) f g e = refl
 
 -- Tokens, and what each begins.
 pub data Ways (A : Type 0) : Type 1 where

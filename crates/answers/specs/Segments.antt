@@ -19,10 +19,10 @@ use Rattle.definition.specs.Expressions.{Binary, parseExpr, blockHere, pushOpti
 use Rattle.definition.specs.Statements.{whileStmt, parseLetStmt, returnStmt, assignStmt, exprStmt, tryParseStmt, tryParseWhile, letStmt, comptimeStmt, requiresSemi, endExpr, endExprOrStmt, statement, body, parseBlock}
 use Rattle.definition.specs.Statements.{StmtResult as Result}
 use Rattle.stream.specs.Delimited.{elements, bind-bind}
 use Rattle.answers.specs.Parts.{addElement, openBinary, literal}
 use Rattle.answers.specs.Steps.{more, Going, Right, Prefix, Bracket, Parameter, Elsewise, Afterwards, eatFirst, prefix, right, infixed, member, call, literalOf, nowhere, postfixKind, simple, empty, opened, goes, parenComma, missing, anyTyped, wants, noElse, elseIf, elseLast, assigns, whole, afterExpr}
-use Rattle.readers.specs.Same.{bind-done, tokensOf, taken, tried, Same as SameFor, also, assoc, then-same, back, first-same, branch-same, itself, ways-same}
-use Rattle.readers.specs.Programs.{methodSteps, signSteps, recordSteps, fieldSteps, typesSteps, callSteps, literalSteps, initSteps, condSteps, elifSteps, selectSteps, whileSteps, letSteps, assignSteps, blockSteps, commaRest, bracketRest, parenSteps, paramRest, paramSteps, elseRest, elseSteps, afterRest, answers, Alternatives, waysOf, alternatives, operandWays, branching, operandRest, operandSteps, stmtWays, stmtSteps, postfixRest, infixRest, turnRest, turnSteps, firstRest, lastRest, exprSteps, noMore, alternative}
+use Rattle.answers.specs.Same.{bind-done, tokensOf, taken, tried, Same as SameFor, also, assoc, then-same, back, first-same, branch-same, itself, ways-same}
+use Rattle.answers.specs.Programs.{methodSteps, signSteps, recordSteps, fieldSteps, typesSteps, callSteps, literalSteps, initSteps, condSteps, elifSteps, selectSteps, whileSteps, letSteps, assignSteps, blockSteps, commaRest, bracketRest, parenSteps, paramRest, paramSteps, elseRest, elseSteps, afterRest, answers, Alternatives, waysOf, alternatives, operandWays, branching, operandRest, operandSteps, stmtWays, stmtSteps, postfixRest, infixRest, turnRest, turnSteps, firstRest, lastRest, exprSteps, noMore, alternative}
 
 module _ (text tokens : List ℕ) (d : ℕ) where
   abbrev Same : {A : Type 0} → Prog A → Prog A → Type 0
