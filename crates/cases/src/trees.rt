@@ -1,8 +1,8 @@
 // Replays the recorded answers of the Rust parser (data/parsed) and says which texts the parser answers otherwise.
-use crate::is_recorded;
-use crate::mark;
-use crate::number;
-use crate::print_number;
+use lexed::is_recorded;
+use lexed::mark;
+use lexed::number;
+use lexed::print_number;
 use lexer::Lexed;
 use libc::STDOUT_FILENO;
 use parser::Parsed;
