@@ -2,6 +2,6 @@
 mod trees;
 
 fn main() {
-    lexed::replay_lexed();
+    records::replay_lexed();
     trees::replay_data();
 }

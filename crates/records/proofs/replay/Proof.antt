@@ -3,8 +3,8 @@ use mathlib.Core.Path.{_≡_}
 use Prim.Native.Nat.{_-_, _≤_}
 use lib.ListN.{length}
 use borrow.Author.Needs.{needs}
-use Rattle.lexed.proofs.replay.Statement.{statement}
-use Rattle.lexed.proofs.replay.Tie as tie
+use Rattle.records.proofs.replay.Statement.{statement}
+use Rattle.records.proofs.replay.Tie as tie
 
 abbrev Inv-loop : tie.InvT-loop
 Inv-loop file tokens₀ records n₀ at₀ differences₀ tokens n at differences = (length tokens ≡ length tokens₀) × ((n ≤ records) × (differences ≤ n))

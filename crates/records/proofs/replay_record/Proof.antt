@@ -1,10 +1,10 @@
 -- `replay_record` is safe: the record that was found lies within the file.
 use mathlib.Core.Path.{subst}
 use lib.ListN.{length}
-use Rattle.lexed.specs.Within.{FoundWithin}
+use Rattle.records.specs.Within.{FoundWithin}
 use borrow.Author.Needs.{needs}
-use Rattle.lexed.proofs.replay_record.Statement.{statement}
-use Rattle.lexed.proofs.replay_record.Tie as tie
+use Rattle.records.proofs.replay_record.Statement.{statement}
+use Rattle.records.proofs.replay_record.Tie as tie
 
 record-at-requires : tie.Need-record-at-requires
 record-at-requires c κs = search needs

@@ -2,8 +2,8 @@
 use mathlib.Core.Path.{sym}
 use lib.Seq.{length-take-le}
 use borrow.Author.Needs.{needs}
-use Rattle.lexed.proofs.is_same.Statement.{statement}
-use Rattle.lexed.proofs.is_same.Tie as tie
+use Rattle.records.proofs.is_same.Statement.{statement}
+use Rattle.records.proofs.is_same.Tie as tie
 
 returns : tie.Need-returns
 returns c = search needs

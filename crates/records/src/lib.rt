@@ -1,7 +1,11 @@
-// Replays the recorded answers of the Rust lexer (data/lexed of crate cases) and says which texts the lexer answers otherwise.
+// The recorded answers of the Rust: the replay of the lexer's (data/lexed of crate cases), which says which texts are answered
+// otherwise, and how the parser's lie in the data.
 ghost use Prim.Native.Nat.{_+_, _*_, _≤_, _<_};
 ghost use lib.ListN.{length};
-ghost use Rattle.lexed.specs.Within.{Within, FoundWithin};
+ghost use Rattle.records.specs.Within.{Within, FoundWithin};
+
+pub mod trees;
+
 use lexer::Lexed;
 use libc::STDOUT_FILENO;
 use words::refusal;
