@@ -12,7 +12,7 @@ use Rattle.definition.specs.Prog.{Prog, Memory, Out, refused, bind, eval, alloc
 use Rattle.definition.specs.Nodes.{allocNodeFrom, allocLastTokenAsNode}
 use Rattle.reading.specs.declared.Reading.{Reading}
 use Rattle.reading.specs.Does.{Does, run}
-use Rattle.cst.specs.Cst.{hasRoom}
+use Rattle.nodes.specs.Words.{hasRoom}
 
 abbrev pub cut : ℕ → ℕ
 cut payload = payload % 2 ^ 26

@@ -15,8 +15,8 @@ use reading::Got;
 use reading::Opened;
 use reading::Reading;
 use reading::report;
-use stream::Going;
-use stream::list_ends;
+use recovery::Going;
+use recovery::list_ends;
 use words::node;
 use words::token;
 use words::token::RIGHT_CURLY;
@@ -384,7 +384,16 @@ fn group_items(
                 if ended.is {
                     break;
                 }
-                at = stream::pass_unexpected(d, at, text, tokens, nodes, values, reports, emitted);
+                at = recovery::pass_unexpected(
+                    d,
+                    at,
+                    text,
+                    tokens,
+                    nodes,
+                    values,
+                    reports,
+                    emitted,
+                );
                 emitted = true;
             }
         }

@@ -17,11 +17,11 @@ use Rattle.utf8.specs.Laws.{bad-offset}
 use Rattle.utf8.specs.declared.Way.{Way}
 use Rattle.utf8.specs.declared.Checked.{Checked}
 use Rattle.utf8.specs.declared.Checked.the-variants.{Good, Bad}
-use Rattle.lexer.specs.Lexer.{tokensOf, word}
+use Rattle.scan.specs.Lexer.{tokensOf, word}
 use Rattle.lexer.specs.Lex.{longestText, notUtf8, lexed, lexedWords, startOf, spellingOf}
 use Rattle.lexer.specs.Walk.{cleared, tokens-count}
 
-cleared-all : (ws : List ℕ) → cleared ws 0 ≡ replicate (length ws) 0
+pub cleared-all : (ws : List ℕ) → cleared ws 0 ≡ replicate (length ws) 0
 cleared-all ws = let e : length ws - 0 ≡ length ws = omega arith in ap (λ (n : ℕ). replicate n 0) e
 
 -- Words stored from the front, and 0 behind them.

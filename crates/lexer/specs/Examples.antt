@@ -5,9 +5,9 @@ use Prim.Native.Nat.{ℕ}
 use Prim.Native.String.{String}
 use Rattle.words.specs.Token as TokenKind
 use Rattle.utf8.specs.Utf8.{has, follow, sequenceBy, table, leadBits, joined, codePoint, characterAt}
-use Rattle.lexer.specs.declared.Token.{Token}
-use Rattle.lexer.specs.Bytes.{ascii, digit, upper, lower, identStart, identPart, blank, isDigit}
-use Rattle.lexer.specs.Lexer.{tokensOf, tokensFrom, tokenAt, longest, rules, punctuation, keywords, others, matched, spelled, classed, run, string, number, blockComment, lineComment, invalidChar}
+use Rattle.scan.specs.declared.Token.{Token}
+use Rattle.scan.specs.Bytes.{ascii, digit, upper, lower, identStart, identPart, blank, isDigit}
+use Rattle.scan.specs.Lexer.{tokensOf, tokensFrom, tokenAt, longest, rules, punctuation, keywords, others, matched, spelled, classed, run, string, number, blockComment, lineComment, invalidChar}
 
 -- A case: its text, and the kinds and ends of its tokens but Eof.
 record Case : Type 0 where

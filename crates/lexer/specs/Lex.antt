@@ -13,7 +13,7 @@ use Rattle.utf8.specs.declared.Way.the-variants.{NoStart, NotAllowed, Cut}
 use Rattle.utf8.specs.declared.Checked.the-variants.{Good, Bad}
 use Rattle.lexer.specs.declared.Lexed.{Lexed}
 use Rattle.lexer.specs.declared.Lexed.the-variants.{Tokens, Refused}
-use Rattle.lexer.specs.Lexer.{tokensOf, word}
+use Rattle.scan.specs.Lexer.{tokensOf, word}
 
 -- "over 65,536 bytes"
 abbrev pub longestText : ℕ

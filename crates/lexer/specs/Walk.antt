@@ -8,10 +8,10 @@ use native.Mathlib.Omega.{arith}
 use lib.ListN.{length, getD, take, drop, set, replicate, drop-of-length-le, length-drop, length-set}
 use lib.Seq.{drop-drop, drop-nil, take-all, take-suc-set, sets}
 use Rattle.words.specs.Token as TokenKind
-use Rattle.lexer.specs.declared.Token.{Token}
-use Rattle.lexer.specs.Lexer.{Lexeme, from, tokenAt, tokensFrom, tokensOf, word}
-use Rattle.lexer.specs.Laws.{ended, rest-cons}
-use Rattle.lexer.specs.Fits.{TokenFits, token-fits}
+use Rattle.scan.specs.declared.Token.{Token}
+use Rattle.scan.specs.Lexer.{Lexeme, from, tokenAt, tokensFrom, tokensOf, word}
+use Rattle.scan.specs.Laws.{ended, rest-cons}
+use Rattle.scan.specs.Fits.{TokenFits, token-fits}
 
 skip : (s : List ℕ) (at k : ℕ) → k ≤ length s → tokensFrom at k s ≡ tokensFrom (at + k) 0 (drop k s)
 unfolding tokensFrom

@@ -4,22 +4,12 @@ ghost use mathlib.Core.List.{_++_, map};
 ghost use Prim.Native.Nat.{_-_, _≤_, _<_};
 ghost use lib.ListN.{length, set, take, replicate};
 ghost use lib.Seq.{sets};
-ghost use Rattle.lexer.specs.Lexer.{tokensOf, word};
+ghost use Rattle.scan.specs.Lexer.{tokensOf, word};
 ghost use Rattle.lexer.specs.Lex.{answer, lexed, lexedWords, notUtf8, startOf, spellingOf};
-
-mod scan;
-mod tokens;
-
 use utf8::Checked;
 use utf8::Way;
 use words::refusal;
 use words::token;
-
-// A token: its kind and the offset where it ends.
-pub struct Token {
-    pub kind: u32,
-    pub end: usize,
-}
 
 // What lexing answers: the number of tokens, Eof included, or a refusal's number and place.
 pub enum Lexed {
@@ -40,7 +30,7 @@ fn put(words: &mut [u32], n: usize, word: u32)
 }
 
 // The words from the n-th on set to 0.
-fn clear(words: &mut [u32], n: usize)
+pub fn clear(words: &mut [u32], n: usize)
     ensures { λ _. ⌜ now (words .exit) ≡ take n (now (words .entry)) ++ replicate (length (now (words .entry)) - n) 0 ⌝ }
 {
     let mut i = n;

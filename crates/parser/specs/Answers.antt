@@ -9,7 +9,6 @@ use lib.Dec.{eqb}
 use lib.ListN.{length, replicate}
 use Rattle.words.specs.Answer.{Answer}
 use Rattle.words.specs.Answer as Answer
-use Rattle.lexer.specs.Walk.{cleared}
 use Rattle.definition.specs.Prog.{Memory, memory, Out, done, refused}
 use Rattle.definition.specs.Declarations.{parseFile}
 use Rattle.definition.specs.Parse.{maxDepth, start, zeros, parsedTo, parsedWithin, parsed}
@@ -31,9 +30,6 @@ given p words = record { answer = answer p; words = words }
 -- As many words, all 0.
 abbrev pub zeroed : List ℕ → List ℕ
 zeroed words = replicate (length words) 0
-
-pub cleared-all : (words : List ℕ) → cleared words 0 ≡ zeroed words
-cleared-all words = let e : length words - 0 ≡ length words = omega arith in ap (λ (n : ℕ). replicate n 0) e
 
 -- Where reading begins.
 abbrev pub begun : List ℕ → Reading

@@ -1,2 +1,1 @@
-pub mod Decls
 pub mod Answers

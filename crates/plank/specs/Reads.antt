@@ -12,7 +12,7 @@ use Rattle.utf8.specs.Utf8.{checked}
 use Rattle.utf8.specs.declared.Checked.{Checked}
 use Rattle.utf8.specs.declared.Checked.the-variants.{Good, Bad}
 use Rattle.words.specs.Refusal
-use Rattle.lexer.specs.Lexer.{tokensOf}
+use Rattle.scan.specs.Lexer.{tokensOf}
 use Rattle.lexer.specs.Lex.{longestText, notUtf8, lexed, lexedWords}
 use Rattle.definition.specs.Prog.{Memory, memory, Out}
 use Rattle.definition.specs.Prog as Prog

@@ -5,7 +5,6 @@ ghost use Prim.Native.Nat.{_≤_};
 ghost use lib.ListN.{length};
 ghost use Rattle.words.specs.Answer.{done};
 ghost use Rattle.lexer.specs.Lex.{lexed, lexedWords};
-ghost use Rattle.parser.specs.Answers.{zeroed};
 ghost use Rattle.reader.specs.Read.{afterLexing, reads};
 ghost use Rattle.reader.specs.Demand.{Agrees};
 ghost use Rattle.plank.specs.Coded.{coded};
@@ -17,16 +16,6 @@ use parser::Parsed;
 pub enum Outcome {
     Counts(usize, u32, usize, usize),
     Refused(u32, u32),
-}
-
-fn clear(words: &mut [u32])
-    ensures { λ _. ⌜ now (words .exit) ≡ zeroed (now (words .entry)) ⌝ }
-{
-    let mut i = 0;
-    while i < words.len() {
-        words[i] = 0;
-        i += 1;
-    }
 }
 
 // The first n words are the tokens that were lexed; they are parsed.
@@ -44,7 +33,7 @@ fn parse_lexed(
     match parser::parse(text, &tokens[..n], nodes, values, reports) {
         Parsed::Counts(nodes, values, reports) => Outcome::Counts(n, nodes, values, reports),
         Parsed::Refused(number, place) => {
-            clear(tokens);
+            parser::clear(tokens);
             Outcome::Refused(number, place)
         }
     }
@@ -64,9 +53,9 @@ pub fn read(
     match lexer::lex(text, tokens) {
         Lexed::Tokens(n) => parse_lexed(text, tokens, nodes, values, reports, n),
         Lexed::Refused(number, place) => {
-            clear(nodes);
-            clear(values);
-            clear(reports);
+            parser::clear(nodes);
+            parser::clear(values);
+            parser::clear(reports);
             Outcome::Refused(number, place as u32)
         }
     }

@@ -8,9 +8,9 @@ use Rattle.words.specs.Token
 use Rattle.words.specs.Words
 use Rattle.words.specs.Answer.{done}
 use Rattle.utf8.specs.Utf8
-use Rattle.lexer.specs.Bytes
-use Rattle.lexer.specs.Bytes.{ascii}
-use Rattle.lexer.specs.Lexer
+use Rattle.scan.specs.Bytes
+use Rattle.scan.specs.Bytes.{ascii}
+use Rattle.scan.specs.Lexer
 use Rattle.lexer.specs.Lex.{lexed, lexedWords}
 use Rattle.literals.specs.Spelling
 use Rattle.literals.specs.Numbers

@@ -10,7 +10,7 @@ use lib.ListN.{length, take}
 use Rattle.words.specs.Refusal
 use Rattle.words.specs.Answer.{Answer, done, refused}
 use Rattle.lexer.specs.Lex.{lexed, lexedWords}
-use Rattle.lexer.specs.Lexer.{tokensOf, word}
+use Rattle.scan.specs.Lexer.{tokensOf, word}
 use Rattle.definition.specs.Parse.{Parsed, parsed, maxDepth}
 use Rattle.definition.specs.Abstract.{rowFrom, World, Fate, ok, deep, parsedA}
 use Rattle.definition.specs.Simulates.{Outcome, is-read, has-reports, is-late, is-deep, is-short, is-short-deep, simulates, Enough, answered, too-deep}

@@ -10,9 +10,9 @@ use Rattle.words.specs.Token as TokenKind
 use Rattle.utf8.specs.Utf8.{characterAt}
 use Rattle.utf8.specs.declared.Character.{Character}
 use Rattle.utf8.specs.declared.Character.the-variants.{Is, Nothing}
-use Rattle.lexer.specs.Bytes.{identPart, isDigit}
-use Rattle.lexer.specs.Longest.{and-both}
-use Rattle.lexer.specs.Lexer.{Lexeme, lexeme, more, Rule, matched, callback, Match, longest, Fixed, rule, punctuation, keywords, others, rules, noMatch, tokenAt, string, number, blockComment, lineComment, invalidChar}
+use Rattle.scan.specs.Bytes.{identPart, isDigit}
+use Rattle.scan.specs.Longest.{and-both}
+use Rattle.scan.specs.Lexer.{Lexeme, lexeme, more, Rule, matched, callback, Match, longest, Fixed, rule, punctuation, keywords, others, rules, noMatch, tokenAt, string, number, blockComment, lineComment, invalidChar}
 
 -- A kind that is not Eof, nor one that there isn't.
 abbrev pub Low : Lexeme → Type 0

@@ -20,10 +20,10 @@ use Rattle.words.specs.Answer.{Answer, done, refused}
 use Rattle.utf8.specs.Utf8.{checked}
 use Rattle.utf8.specs.declared.Checked.{Checked}
 use Rattle.utf8.specs.declared.Checked.the-variants.{Good, Bad}
-use Rattle.lexer.specs.declared.Token.{Token as LexToken}
-use Rattle.lexer.specs.Lexer.{from, tokenAt, tokensFrom, tokensOf, word}
+use Rattle.scan.specs.declared.Token.{Token as LexToken}
+use Rattle.scan.specs.Lexer.{from, tokenAt, tokensFrom, tokensOf, word}
 use Rattle.lexer.specs.Lex.{longestText, notUtf8, lexed, lexedWords}
-use Rattle.lexer.specs.Longest.{and-both}
+use Rattle.scan.specs.Longest.{and-both}
 use Rattle.lexer.specs.Walk.{Stepped, stepped, over, tokens-count}
 use Rattle.literals.specs.Spelling.{span, wordAt, tokenStart, covered, spelling}
 use Rattle.definition.specs.Quiet.{word-inside}

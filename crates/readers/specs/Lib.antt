@@ -1,5 +1,2 @@
 pub mod Readers
 pub mod Level
-pub mod Same
-pub mod Programs
-pub mod Segments

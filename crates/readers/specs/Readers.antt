@@ -16,10 +16,10 @@ use Rattle.reading.specs.declared.Got.{Got}
 use Rattle.reading.specs.declared.Found.{Found}
 use Rattle.reading.specs.declared.Maybe.the-variants.{Some}
 use Rattle.reading.specs.Does.{refusedAt}
-use Rattle.parts.specs.declared.Stmt.{Stmt}
-use Rattle.parts.specs.declared.StmtResult.the-variants.{Statement}
-use Rattle.steps.specs.declared.Longer.{Longer}
-use Rattle.steps.specs.Steps.{endArm, armTurn}
+use Rattle.answers.specs.declared.Stmt.{Stmt}
+use Rattle.answers.specs.declared.StmtResult.the-variants.{Statement}
+use Rattle.answers.specs.declared.Longer.{Longer}
+use Rattle.answers.specs.Steps.{endArm, armTurn}
 
 -- A refusal, unless there was one before.
 abbrev pub tooDeep : Reading → Reading

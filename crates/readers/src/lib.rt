@@ -11,36 +11,36 @@ ghost use Rattle.definition.specs.Statements.{whileStmt, parseLetStmt, returnSt
 ghost use Rattle.reading.specs.Does.{Does};
 ghost use Rattle.stream.specs.Delimited.{elements};
 ghost use Rattle.cst.specs.Cst.{maybe};
-ghost use Rattle.parts.specs.Parts.{element, stmtResult};
-ghost use Rattle.readers.specs.Programs.{guarded, branching, indexed, typing, postfixSteps};
+ghost use Rattle.answers.specs.Parts.{element, stmtResult};
+ghost use Rattle.answers.specs.Programs.{guarded, branching, indexed, typing, postfixSteps};
 ghost use Rattle.readers.specs.Readers.{tooDeep, fieldOrNone, armHead, armRest, armTurnOf, elseIfs, found, wholeStmt};
+use answers::After;
+use answers::Brackets;
+use answers::Element;
+use answers::Else;
+use answers::Goes;
+use answers::Listed;
+use answers::Longer;
+use answers::Param;
+use answers::Stmt;
+use answers::StmtResult;
 use cst::close_node;
 use cst::open_from;
 use cst::open_here;
 use cst::push_child;
 use definition::Mode;
 use definition::Unfinished;
-use parts::Element;
-use parts::Listed;
-use parts::Stmt;
-use parts::StmtResult;
 use reading::Found;
 use reading::Got;
 use reading::Maybe;
 use reading::Opened;
 use reading::Reading;
 use reading::refuse;
-use steps::After;
-use steps::Brackets;
-use steps::Else;
-use steps::Goes;
-use steps::Longer;
-use steps::Param;
+use recovery::list_ends;
+use recovery::pass_unexpected;
 use stream::check;
 use stream::eat;
 use stream::expect;
-use stream::list_ends;
-use stream::pass_unexpected;
 use stream::turns_of;
 use words::node;
 use words::token;
@@ -359,7 +359,7 @@ fn atom(
     let start = cursor.at;
     let one = steps::simple(d, s, text, tokens, nodes, values, reports);
     let it = one.it;
-    if parts::is_some(it) {
+    if answers::is_some(it) {
         return one;
     }
     let first = steps::eat_first(d, one.at, text, tokens, nodes, values, reports, &OPERANDS);
@@ -522,7 +522,7 @@ fn paren(
             );
             if more.on {
                 let all = tuple(d, more.at, text, tokens, nodes, values, reports, more.it);
-                return steps::end_node(
+                return stages::end_node(
                     d,
                     all.at,
                     text,
@@ -534,7 +534,7 @@ fn paren(
                     all.it,
                 );
             }
-            steps::end_node(
+            stages::end_node(
                 d,
                 more.at,
                 text,
@@ -638,7 +638,7 @@ fn meth(
 ) -> Got
     ensures { λ r. ⌜ Does (now (text .entry)) (now (tokens .entry)) d parseMethodDef s (memory (now (nodes .entry)) (now (values .entry)) (now (reports .entry))) (r .it) (r .at) (memory (now (nodes .exit)) (now (values .exit)) (now (reports .exit))) ⌝ }
 {
-    let u = steps::open_method(d, s, text, tokens, nodes, values, reports);
+    let u = stages::open_method(d, s, text, tokens, nodes, values, reports);
     let u = sig(d, u.at, text, tokens, nodes, values, reports, u.it);
     close_node(d, u.at, text, tokens, nodes, values, reports, u.it)
 }
@@ -656,7 +656,7 @@ fn sig(
 ) -> Opened
     ensures { λ r. ⌜ Does (now (text .entry)) (now (tokens .entry)) d (parseFunctionSignatureAndBody u) s (memory (now (nodes .entry)) (now (values .entry)) (now (reports .entry))) (r .it) (r .at) (memory (now (nodes .exit)) (now (values .exit)) (now (reports .exit))) ⌝ }
 {
-    let list = steps::open_list(
+    let list = stages::open_list(
         d,
         s,
         text,
@@ -762,7 +762,7 @@ fn par(
 ) -> Listed
     ensures { λ r. ⌜ Does (now (text .entry)) (now (tokens .entry)) d (parseParameter list) s (memory (now (nodes .entry)) (now (values .entry)) (now (reports .entry))) (element (r .it)) (r .at) (memory (now (nodes .exit)) (now (values .exit)) (now (reports .exit))) ⌝ }
 {
-    let head = steps::param_head(d, s, text, tokens, nodes, values, reports);
+    let head = stages::param_head(d, s, text, tokens, nodes, values, reports);
     let at = head.at;
     let it = head.it;
     match it {
@@ -829,7 +829,7 @@ fn strct(
     );
     let found = idx(d, u.at, text, tokens, nodes, values, reports);
     let it = found.it;
-    let both = steps::open_body(d, found.at, text, tokens, nodes, values, reports, u.it, it);
+    let both = stages::open_body(d, found.at, text, tokens, nodes, values, reports, u.it, it);
     let all = inner(d, both.at, text, tokens, nodes, values, reports, both.inner);
     steps::end_body(
         d,
@@ -908,7 +908,7 @@ fn inner(
             break;
         }
         turns -= 1;
-        let end = parts::one_of(
+        let end = clauses::one_of(
             d,
             at,
             text,
@@ -923,7 +923,7 @@ fn inner(
         if end.is {
             break;
         }
-        let fun = parts::one_of(
+        let fun = clauses::one_of(
             d,
             at,
             text,
@@ -974,9 +974,9 @@ fn mem(
         token::IDENTIFIER,
     );
     if named.is {
-        let told = parts::note_field(d, named.at, text, tokens, nodes, values, reports, seen);
+        let told = clauses::note_field(d, named.at, text, tokens, nodes, values, reports, seen);
         let n = field(d, told, text, tokens, nodes, values, reports);
-        return steps::after_field(
+        return stages::after_field(
             d,
             n.at,
             text,
@@ -989,7 +989,7 @@ fn mem(
             n.it,
         );
     }
-    parts::no_member(
+    clauses::no_member(
         d,
         named.at,
         text,
@@ -1084,7 +1084,7 @@ fn tys(
         u.it,
         token::RIGHT_CURLY,
     );
-    steps::end_node(
+    stages::end_node(
         d,
         all.at,
         text,
@@ -1215,7 +1215,7 @@ fn call(
         u.it,
         token::RIGHT_ROUND,
     );
-    steps::end_node(
+    stages::end_node(
         d,
         all.at,
         text,
@@ -1256,7 +1256,7 @@ fn lit(
         token::LEFT_CURLY,
     );
     let all = inits(d, u.at, text, tokens, nodes, values, reports, u.it);
-    steps::end_node(
+    stages::end_node(
         d,
         all.at,
         text,
@@ -1475,7 +1475,7 @@ fn alts(
             break;
         }
         turns -= 1;
-        let kind = steps::else_kind(d, at, text, tokens, nodes, values, reports);
+        let kind = stages::else_kind(d, at, text, tokens, nodes, values, reports);
         at = kind.at;
         let it = kind.it;
         match it {
@@ -1581,7 +1581,7 @@ fn pick(
         reports,
         Mode::NoPostFixCurlyBrace,
     );
-    let both = steps::open_arms(
+    let both = stages::open_arms(
         d,
         subject.at,
         text,
@@ -1687,7 +1687,7 @@ fn arm(
         reports,
         Mode::AllowAll,
     );
-    steps::end_arm(
+    stages::end_arm(
         d,
         value.at,
         text,
@@ -1716,7 +1716,7 @@ fn key(
 {
     let fallback = eat(d, s, text, tokens, nodes, values, reports, token::ELSE);
     if fallback.is {
-        return parts::fallback_arm(d, fallback.at, text, tokens, nodes, values, reports, start);
+        return clauses::fallback_arm(d, fallback.at, text, tokens, nodes, values, reports, start);
     }
     let u = open_here(
         d,
@@ -1847,7 +1847,7 @@ fn bind(
 ) -> Got
     ensures { λ r. ⌜ Does (now (text .entry)) (now (tokens .entry)) d (parseLetStmt start comptime) s (memory (now (nodes .entry)) (now (values .entry)) (now (reports .entry))) (r .it) (r .at) (memory (now (nodes .exit)) (now (values .exit)) (now (reports .exit))) ⌝ }
 {
-    let head = steps::open_let(d, s, text, tokens, nodes, values, reports, start, comptime);
+    let head = stages::open_let(d, s, text, tokens, nodes, values, reports, start, comptime);
     let u = ty(
         d,
         head.at,
@@ -1859,10 +1859,10 @@ fn bind(
         head.it,
         head.typed,
     );
-    let payload = parts::let_flags(comptime, head.mutable, head.typed);
-    let at = steps::let_equals(d, u.at, text, tokens, nodes, values, reports, u.it, payload);
+    let payload = answers::let_flags(comptime, head.mutable, head.typed);
+    let at = stages::let_equals(d, u.at, text, tokens, nodes, values, reports, u.it, payload);
     let value = must(d, at, text, tokens, nodes, values, reports, Mode::AllowAll);
-    steps::end_let(
+    stages::end_let(
         d,
         value.at,
         text,
@@ -2024,7 +2024,7 @@ fn comp(
             true,
         ));
     }
-    parts::comptime_error(d, local.at, text, tokens, nodes, values, reports, start)
+    clauses::comptime_error(d, local.at, text, tokens, nodes, values, reports, start)
 }
 
 // An assignment, after `=`.
@@ -2041,7 +2041,7 @@ fn put(
 ) -> Stmt
     ensures { λ r. ⌜ Does (now (text .entry)) (now (tokens .entry)) d (assignStmt start left) s (memory (now (nodes .entry)) (now (values .entry)) (now (reports .entry))) (stmtResult (r .it)) (r .at) (memory (now (nodes .exit)) (now (values .exit)) (now (reports .exit))) ⌝ }
 {
-    let u = steps::open_assign(d, s, text, tokens, nodes, values, reports, start, left);
+    let u = stages::open_assign(d, s, text, tokens, nodes, values, reports, start, left);
     let right = must(
         d,
         u.at,
@@ -2097,7 +2097,7 @@ fn bare(
             at,
         },
         Maybe::Some(n) => {
-            let after = steps::after_expr(d, at, text, tokens, nodes, values, reports, n);
+            let after = stages::after_expr(d, at, text, tokens, nodes, values, reports, n);
             let at = after.at;
             let it = after.it;
             match it {
@@ -2146,7 +2146,7 @@ fn seq(
         }
         let next = stmt(d, at, text, tokens, nodes, values, reports);
         let it = next.it;
-        let more = steps::add_stmt(
+        let more = stages::add_stmt(
             d,
             next.at,
             text,
@@ -2189,7 +2189,7 @@ pub fn block(
         };
     }
     let e = d - 1;
-    let both = steps::open_block(e, s, text, tokens, nodes, values, reports, start, kind);
+    let both = stages::open_block(e, s, text, tokens, nodes, values, reports, start, kind);
     let all = seq(e, both.at, text, tokens, nodes, values, reports, both.inner);
     let closing = all.closing;
     parts::close_block(

@@ -18,7 +18,7 @@ use Rattle.literals.specs.Spelling.{span, wordAt, tokenStart, tokenSpan, covere
 use Rattle.literals.specs.Strings.{Event, inside, decodedFrom, decodeString, charactersFrom, hexFrom, decodeHex}
 use Rattle.values.specs.Chars.{events}
 use Rattle.values.specs.Hex.{hexEvents}
-use Rattle.values.specs.Spelled.{within, spelled, last-end}
+use Rattle.spellings.specs.Spelled.{within, spelled, last-end}
 
 abbrev pub insideOf : ℕ → List ℕ → List ℕ
 insideOf opening s = take (length s - (opening + 1)) (drop opening s)

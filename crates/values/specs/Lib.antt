@@ -4,9 +4,7 @@ pub mod Digits
 pub mod Times
 pub mod Put
 pub mod Kept
-pub mod Spelled
 pub mod Number
-pub mod Names
 pub mod Chars
 pub mod Pieces
 pub mod Hex

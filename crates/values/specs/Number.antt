@@ -17,7 +17,7 @@ use Rattle.values.specs.declared.Count.{Count}
 use Rattle.values.specs.declared.Count.the-variants.{Words, DontFit}
 use Rattle.values.specs.Numbers.{radixOf}
 use Rattle.values.specs.Kept.{Kept, pastWords, value-full, value-fits}
-use Rattle.values.specs.Spelled.{spelled}
+use Rattle.spellings.specs.Spelled.{spelled}
 
 pub radix-more : (base : Base) → 0 < radixOf base
 radix-more Binary = lit< tt

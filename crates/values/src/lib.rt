@@ -1,11 +1,10 @@
-// Literal values and names: what number tokens, names and string tokens stand for.
+// Literal values: what number tokens and string tokens stand for.
 ghost use mathlib.Core.Path.{_≡_};
 ghost use Rattle.words.specs.Words.{valueHead};
 ghost use Rattle.values.specs.Kept.{pastWords};
 
 mod bytes;
 mod digit;
-pub mod names;
 pub mod number;
 pub mod strings;
 

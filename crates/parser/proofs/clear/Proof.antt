@@ -1,55 +1,18 @@
--- `clear` meets its contract: what the words become from `i` on is what they become from the first on.
-use mathlib.Core.Path.{_≡_, refl}
-use Prim.Native.Nat.{_-_}
-use lib.ListN.{length, length-set}
-use Rattle.lexer.specs.Walk.{cleared, cleared-over, cleared-next}
-use Rattle.parser.specs.Answers.{zeroed, cleared-all}
+-- `clear` meets its contract.
+use mathlib.Core.Path.{_∙_}
+use Rattle.lexer.specs.Calls.{cleared-all}
 use borrow.Author.Needs.{needs}
-use native.Mathlib.Omega.{arith}
 use Rattle.parser.proofs.clear.Statement.{statement}
 use Rattle.parser.proofs.clear.Tie as tie
 
-abbrev Inv-loop : tie.InvT-loop
-Inv-loop words₀ i₀ words i = (cleared words i ≡ zeroed words₀) × (length words ≡ length words₀)
+clear-requires : tie.Need-clear-requires
+clear-requires c κs = search needs
 
-abbrev μ-loop : tie.MeasureT-loop
-μ-loop words₀ i₀ words i = length words - i
+same-length : tie.Need-same-length
+same-length c = search needs
 
-loop-holds : tie.Need-loop-holds Inv-loop μ-loop
-loop-holds c = (cleared-all (c .args .words .now), refl)
-
-mul-words : tie.Need-mul-words Inv-loop μ-loop
-mul-words c = search needs
-
-slice-write-words : tie.Need-slice-write-words Inv-loop μ-loop
-slice-write-words c = search needs
-
-add-i : tie.Need-add-i Inv-loop μ-loop
-add-i c = search needs
-
-loop-less : tie.Need-loop-less Inv-loop μ-loop
-loop-less c = simp length-set (omega arith)
-
-loop-again : tie.Need-loop-again Inv-loop μ-loop
-loop-again c = (cleared-next _ _ _ (c .loop-test .taken) (c .before .loop .inv .0), simp length-set (c .before .loop .inv .1))
-
-same-length : tie.Need-same-length Inv-loop μ-loop
-same-length c = c .before .loop .inv .1
-
-returns : tie.Need-returns Inv-loop μ-loop
-returns c = search (needs, cleared-over)
+returns : tie.Need-returns
+returns c = c .before .before .clear .ensures ∙ cleared-all (c .before .before .before .before .before .args .words .now)
 
 pub clear-spec : {M : Type 1} → statement M
-clear-spec =
-    tie.close
-    (tie.spec
-    Inv-loop
-    μ-loop
-    loop-holds
-    mul-words
-    slice-write-words
-    add-i
-    loop-less
-    loop-again
-    same-length
-    returns)
+clear-spec = tie.close (tie.spec clear-requires same-length returns)

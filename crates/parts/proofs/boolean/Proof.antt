@@ -1,6 +1,6 @@
 -- `boolean` meets its contract.
 use mathlib.Core.Path.{sym, _∙_}
-use Rattle.parts.specs.Rules.{or-some, or-none}
+use Rattle.answers.specs.Rules.{or-some, or-none}
 use borrow.Author.Needs.{needs}
 use Rattle.parts.proofs.boolean.Statement.{statement}
 use Rattle.parts.proofs.boolean.Tie as tie

@@ -1,6 +1,6 @@
 -- `eat_as` meets its contract.
 use mathlib.Core.Path.{_∙_}
-use Rattle.parts.specs.Rules.{eats-found, eats-missed}
+use Rattle.answers.specs.Rules.{eats-found, eats-missed}
 use borrow.Author.Needs.{needs}
 use Rattle.parts.proofs.eat_as.Statement.{statement}
 use Rattle.parts.proofs.eat_as.Tie as tie

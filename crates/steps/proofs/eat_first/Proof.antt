@@ -5,7 +5,7 @@ use native.Mathlib.Omega.{arith}
 use lib.ListN.{length}
 use Prim.Native.Nat.{_-_, _≤_}
 use Rattle.definition.specs.Prog.{memory}
-use Rattle.steps.specs.Laws.{Trying, tries-first, tries-none, tries-this, tries-next}
+use Rattle.answers.specs.Laws.{Trying, tries-first, tries-none, tries-this, tries-next}
 use Rattle.steps.proofs.eat_first.Statement.{statement}
 use Rattle.steps.proofs.eat_first.Tie as tie
 

@@ -1,6 +1,6 @@
 -- `simple` meets its contract.
 use mathlib.Core.Path.{_∙_}
-use Rattle.parts.specs.Rules.{or-some, or-none}
+use Rattle.answers.specs.Rules.{or-some, or-none}
 use borrow.Author.Needs.{needs}
 use Rattle.steps.proofs.simple.Statement.{statement}
 use Rattle.steps.proofs.simple.Tie as tie

@@ -9,14 +9,14 @@ use Rattle.definition.specs.Expressions.{blockHere, elseTurn}
 use Rattle.reading.specs.Does.{then, gives, Turns, first-turn, next-turn, last-turn, no-turn-left, refused-turn}
 use Rattle.cst.specs.Laws.{position-is}
 use Rattle.readers.specs.Readers.{elseIfs}
-use Rattle.readers.specs.Same.{regrouped}
-use Rattle.readers.specs.Segments.{else-same}
+use Rattle.answers.specs.Same.{regrouped}
+use Rattle.answers.specs.Segments.{else-same}
 use borrow.Author.Needs.{needs}
 use native.Mathlib.Omega.{arith}
 use Rattle.readers.proofs.+alts+arm+arms+atom+bare+bind+block+call+comp+cond+elems+elif+expr+field+fork+func+idx+init+inits+inner+key+lit+mem+meth+must+par+paren+pars+pick+post+put+rep+ret+seq+sig+stmt+strct+test+tuple+ty+tys.Lts-alts as lts
 use Rattle.readers.proofs.alts.Reads as alts-reads
 use Rattle.stream.proofs.turns_of.Reads as stream·turns-of-reads
-use Rattle.steps.proofs.else_kind.Reads as steps·else-kind-reads
+use Rattle.stages.proofs.else_kind.Reads as stages·else-kind-reads
 use Rattle.readers.proofs.elif.Reads as elif-reads
 use Rattle.readers.proofs.block.Reads as block-reads
 use Rattle.readers.proofs.+alts+arm+arms+atom+bare+bind+block+call+comp+cond+elems+elif+expr+field+fork+func+idx+init+inits+inner+key+lit+mem+meth+must+par+paren+pars+pick+post+put+rep+ret+seq+sig+stmt+strct+test+tuple+ty+tys.Proof.Measures.{alts-at, elif-below, block-below}
@@ -30,7 +30,7 @@ abbrev μ-loop : lts.MeasureT-loop
 μ-loop d text tokens nodes₀ values₀ reports₀ turns₀ list₀ at₀ nodes values reports turns list at = turns
 
 abbrev cs : ℕ → lts.Claims
-cs t = (stream·turns-of-reads.Asked, stream·turns-of-reads.Learnt, steps·else-kind-reads.Asked, steps·else-kind-reads.Learnt, elif-below t, elif-reads.Post, block-below t, block-reads.Post)
+cs t = (stream·turns-of-reads.Asked, stream·turns-of-reads.Learnt, stages·else-kind-reads.Asked, stages·else-kind-reads.Learnt, elif-below t, elif-reads.Post, block-below t, block-reads.Post)
 
 module _ (t : ℕ) where
   loop-holds : lts.Need-loop-holds (cs t) (alts-at t) alts-reads.Post Inv-loop μ-loop

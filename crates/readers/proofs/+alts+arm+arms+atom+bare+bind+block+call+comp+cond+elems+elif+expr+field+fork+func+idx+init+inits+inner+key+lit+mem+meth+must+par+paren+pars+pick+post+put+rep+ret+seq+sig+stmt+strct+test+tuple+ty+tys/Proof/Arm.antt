@@ -10,11 +10,11 @@ use Rattle.readers.proofs.arm.Reads as arm-reads
 use Rattle.readers.proofs.key.Reads as key-reads
 use Rattle.stream.proofs.expect.Reads as stream·expect-reads
 use Rattle.readers.proofs.must.Reads as must-reads
-use Rattle.steps.proofs.end_arm.Reads as steps·end-arm-reads
+use Rattle.stages.proofs.end_arm.Reads as stages·end-arm-reads
 use Rattle.readers.proofs.+alts+arm+arms+atom+bare+bind+block+call+comp+cond+elems+elif+expr+field+fork+func+idx+init+inits+inner+key+lit+mem+meth+must+par+paren+pars+pick+post+put+rep+ret+seq+sig+stmt+strct+test+tuple+ty+tys.Proof.Measures.{arm-at, key-below, must-below}
 
 abbrev cs : ℕ → lts.Claims
-cs t = (key-below t, key-reads.Post, stream·expect-reads.Asked, stream·expect-reads.Learnt, must-below t, must-reads.Post, steps·end-arm-reads.Asked, steps·end-arm-reads.Learnt)
+cs t = (key-below t, key-reads.Post, stream·expect-reads.Asked, stream·expect-reads.Learnt, must-below t, must-reads.Post, stages·end-arm-reads.Asked, stages·end-arm-reads.Learnt)
 
 module _ (t : ℕ) where
   returns : lts.Need-returns (cs t) (arm-at t) arm-reads.Post

@@ -10,13 +10,13 @@ use Rattle.definition.specs.Tokens.{eof}
 use Rattle.definition.specs.Expressions.{armTurn}
 use Rattle.reading.specs.Does.{gives, when-true, when-false, Turns, first-turn, next-turn, last-turn, no-turn-left, refused-turn}
 use Rattle.stream.specs.Delimited.{listEnds}
-use Rattle.parts.specs.Rules.{one-of}
+use Rattle.answers.specs.Rules.{one-of}
 use borrow.Author.Needs.{needs}
 use native.Mathlib.Omega.{arith}
 use Rattle.readers.proofs.+alts+arm+arms+atom+bare+bind+block+call+comp+cond+elems+elif+expr+field+fork+func+idx+init+inits+inner+key+lit+mem+meth+must+par+paren+pars+pick+post+put+rep+ret+seq+sig+stmt+strct+test+tuple+ty+tys.Lts-arms as lts
 use Rattle.readers.proofs.arms.Reads as arms-reads
 use Rattle.stream.proofs.turns_of.Reads as stream·turns-of-reads
-use Rattle.stream.proofs.list_ends.Reads as stream·list-ends-reads
+use Rattle.recovery.proofs.list_ends.Reads as recovery·list-ends-reads
 use Rattle.readers.proofs.arm.Reads as arm-reads
 use Rattle.readers.proofs.+alts+arm+arms+atom+bare+bind+block+call+comp+cond+elems+elif+expr+field+fork+func+idx+init+inits+inner+key+lit+mem+meth+must+par+paren+pars+pick+post+put+rep+ret+seq+sig+stmt+strct+test+tuple+ty+tys.Proof.Measures.{arms-at, arm-below}
 
@@ -29,7 +29,7 @@ abbrev μ-loop : lts.MeasureT-loop
 μ-loop d text tokens nodes₀ values₀ reports₀ turns₀ list₀ at₀ nodes values reports turns list at = turns
 
 abbrev cs : ℕ → lts.Claims
-cs t = (stream·turns-of-reads.Asked, stream·turns-of-reads.Learnt, stream·list-ends-reads.Asked, stream·list-ends-reads.Learnt, arm-below t, arm-reads.Post)
+cs t = (stream·turns-of-reads.Asked, stream·turns-of-reads.Learnt, recovery·list-ends-reads.Asked, recovery·list-ends-reads.Learnt, arm-below t, arm-reads.Post)
 
 module _ (t : ℕ) where
   loop-holds : lts.Need-loop-holds (cs t) (arms-at t) arms-reads.Post Inv-loop μ-loop

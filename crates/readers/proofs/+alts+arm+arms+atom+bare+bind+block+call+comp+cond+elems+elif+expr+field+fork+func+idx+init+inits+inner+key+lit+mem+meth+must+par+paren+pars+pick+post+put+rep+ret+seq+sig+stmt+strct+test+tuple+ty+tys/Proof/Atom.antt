@@ -4,16 +4,16 @@ use mathlib.Core.Path.{_∙_}
 use Rattle.definition.specs.Expressions.{eagerFunction}
 use Rattle.reading.specs.Does.{then, gives}
 use Rattle.cst.specs.Laws.{position-is}
-use Rattle.parts.specs.Rules.{or-some, or-none}
-use Rattle.readers.specs.Programs.{branching, waysOf, operandWays}
-use Rattle.readers.specs.Same.{regrouped, taken-none}
-use Rattle.readers.specs.Segments.{operand-same}
+use Rattle.answers.specs.Rules.{or-some, or-none}
+use Rattle.answers.specs.Programs.{branching, waysOf, operandWays}
+use Rattle.answers.specs.Same.{regrouped, taken-none}
+use Rattle.answers.specs.Segments.{operand-same}
 use borrow.Author.Needs.{needs}
 use native.Mathlib.Omega.{arith}
 use Rattle.readers.proofs.+alts+arm+arms+atom+bare+bind+block+call+comp+cond+elems+elif+expr+field+fork+func+idx+init+inits+inner+key+lit+mem+meth+must+par+paren+pars+pick+post+put+rep+ret+seq+sig+stmt+strct+test+tuple+ty+tys.Lts-atom as lts
 use Rattle.readers.proofs.atom.Reads as atom-reads
 use Rattle.steps.proofs.simple.Reads as steps·simple-reads
-use Rattle.parts.proofs.is_some.Reads as parts·is-some-reads
+use Rattle.answers.proofs.is_some.Reads as answers·is-some-reads
 use Rattle.steps.proofs.eat_first.Reads as steps·eat-first-reads
 use Rattle.readers.proofs.paren.Reads as paren-reads
 use Rattle.readers.proofs.some.Reads as readers·some-reads
@@ -26,7 +26,7 @@ use Rattle.readers.proofs.fork.Reads as fork-reads
 use Rattle.readers.proofs.+alts+arm+arms+atom+bare+bind+block+call+comp+cond+elems+elif+expr+field+fork+func+idx+init+inits+inner+key+lit+mem+meth+must+par+paren+pars+pick+post+put+rep+ret+seq+sig+stmt+strct+test+tuple+ty+tys.Proof.Measures.{atom-at, paren-below, block-below, func-below, strct-below, tys-below, fork-below}
 
 abbrev cs : ℕ → lts.Claims
-cs t = (steps·simple-reads.Asked, steps·simple-reads.Learnt, parts·is-some-reads.Asked, parts·is-some-reads.Learnt, steps·eat-first-reads.Asked, steps·eat-first-reads.Learnt, paren-below t, paren-reads.Post, readers·some-reads.Asked, readers·some-reads.Learnt, block-below t, block-reads.Post, stream·expect-reads.Asked, stream·expect-reads.Learnt, func-below t, func-reads.Post, strct-below t, strct-reads.Post, tys-below t, tys-reads.Post, fork-below t, fork-reads.Post)
+cs t = (steps·simple-reads.Asked, steps·simple-reads.Learnt, answers·is-some-reads.Asked, answers·is-some-reads.Learnt, steps·eat-first-reads.Asked, steps·eat-first-reads.Learnt, paren-below t, paren-reads.Post, readers·some-reads.Asked, readers·some-reads.Learnt, block-below t, block-reads.Post, stream·expect-reads.Asked, stream·expect-reads.Learnt, func-below t, func-reads.Post, strct-below t, strct-reads.Post, tys-below t, tys-reads.Post, fork-below t, fork-reads.Post)
 
 module _ (t : ℕ) where
   returns : lts.Need-returns (cs t) (atom-at t) atom-reads.Post

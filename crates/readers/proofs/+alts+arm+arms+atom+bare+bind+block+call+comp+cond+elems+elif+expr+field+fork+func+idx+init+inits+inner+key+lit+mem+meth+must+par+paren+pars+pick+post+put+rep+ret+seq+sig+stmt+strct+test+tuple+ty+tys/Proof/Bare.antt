@@ -4,19 +4,19 @@ use mathlib.Core.Path.{_∙_}
 use Rattle.definition.specs.Expressions.{tryParseExpr}
 use Rattle.definition.specs.Statements.{exprStmt}
 use Rattle.reading.specs.Does.{then, gives}
-use Rattle.readers.specs.Same.{regrouped}
-use Rattle.readers.specs.Segments.{after-same}
+use Rattle.answers.specs.Same.{regrouped}
+use Rattle.answers.specs.Segments.{after-same}
 use borrow.Author.Needs.{needs}
 use native.Mathlib.Omega.{arith}
 use Rattle.readers.proofs.+alts+arm+arms+atom+bare+bind+block+call+comp+cond+elems+elif+expr+field+fork+func+idx+init+inits+inner+key+lit+mem+meth+must+par+paren+pars+pick+post+put+rep+ret+seq+sig+stmt+strct+test+tuple+ty+tys.Lts-bare as lts
 use Rattle.readers.proofs.bare.Reads as bare-reads
 use Rattle.readers.proofs.expr.Reads as expr-reads
-use Rattle.steps.proofs.after_expr.Reads as steps·after-expr-reads
+use Rattle.stages.proofs.after_expr.Reads as stages·after-expr-reads
 use Rattle.readers.proofs.put.Reads as put-reads
 use Rattle.readers.proofs.+alts+arm+arms+atom+bare+bind+block+call+comp+cond+elems+elif+expr+field+fork+func+idx+init+inits+inner+key+lit+mem+meth+must+par+paren+pars+pick+post+put+rep+ret+seq+sig+stmt+strct+test+tuple+ty+tys.Proof.Measures.{bare-at, expr-below, put-below}
 
 abbrev cs : ℕ → lts.Claims
-cs t = (expr-below t, expr-reads.Post, steps·after-expr-reads.Asked, steps·after-expr-reads.Learnt, put-below t, put-reads.Post)
+cs t = (expr-below t, expr-reads.Post, stages·after-expr-reads.Asked, stages·after-expr-reads.Learnt, put-below t, put-reads.Post)
 
 module _ (t : ℕ) where
   returns : lts.Need-returns (cs t) (bare-at t) bare-reads.Post

@@ -2,22 +2,22 @@
 use Prim.Native.Nat.{ℕ}
 use mathlib.Core.Path.{_∙_}
 use Rattle.reading.specs.Does.{then}
-use Rattle.readers.specs.Same.{regrouped}
-use Rattle.readers.specs.Segments.{let-same}
+use Rattle.answers.specs.Same.{regrouped}
+use Rattle.answers.specs.Segments.{let-same}
 use borrow.Author.Needs.{needs}
 use native.Mathlib.Omega.{arith}
 use Rattle.readers.proofs.+alts+arm+arms+atom+bare+bind+block+call+comp+cond+elems+elif+expr+field+fork+func+idx+init+inits+inner+key+lit+mem+meth+must+par+paren+pars+pick+post+put+rep+ret+seq+sig+stmt+strct+test+tuple+ty+tys.Lts-bind as lts
 use Rattle.readers.proofs.bind.Reads as bind-reads
-use Rattle.steps.proofs.open_let.Reads as steps·open-let-reads
+use Rattle.stages.proofs.open_let.Reads as stages·open-let-reads
 use Rattle.readers.proofs.ty.Reads as ty-reads
-use Rattle.parts.proofs.let_flags.Reads as parts·let-flags-reads
-use Rattle.steps.proofs.let_equals.Reads as steps·let-equals-reads
+use Rattle.answers.proofs.let_flags.Reads as answers·let-flags-reads
+use Rattle.stages.proofs.let_equals.Reads as stages·let-equals-reads
 use Rattle.readers.proofs.must.Reads as must-reads
-use Rattle.steps.proofs.end_let.Reads as steps·end-let-reads
+use Rattle.stages.proofs.end_let.Reads as stages·end-let-reads
 use Rattle.readers.proofs.+alts+arm+arms+atom+bare+bind+block+call+comp+cond+elems+elif+expr+field+fork+func+idx+init+inits+inner+key+lit+mem+meth+must+par+paren+pars+pick+post+put+rep+ret+seq+sig+stmt+strct+test+tuple+ty+tys.Proof.Measures.{bind-at, ty-below, must-below}
 
 abbrev cs : ℕ → lts.Claims
-cs t = (steps·open-let-reads.Asked, steps·open-let-reads.Learnt, ty-below t, ty-reads.Post, parts·let-flags-reads.Asked, parts·let-flags-reads.Learnt, steps·let-equals-reads.Asked, steps·let-equals-reads.Learnt, must-below t, must-reads.Post, steps·end-let-reads.Asked, steps·end-let-reads.Learnt)
+cs t = (stages·open-let-reads.Asked, stages·open-let-reads.Learnt, ty-below t, ty-reads.Post, answers·let-flags-reads.Asked, answers·let-flags-reads.Learnt, stages·let-equals-reads.Asked, stages·let-equals-reads.Learnt, must-below t, must-reads.Post, stages·end-let-reads.Asked, stages·end-let-reads.Learnt)
 
 module _ (t : ℕ) where
   returns : lts.Need-returns (cs t) (bind-at t) bind-reads.Post

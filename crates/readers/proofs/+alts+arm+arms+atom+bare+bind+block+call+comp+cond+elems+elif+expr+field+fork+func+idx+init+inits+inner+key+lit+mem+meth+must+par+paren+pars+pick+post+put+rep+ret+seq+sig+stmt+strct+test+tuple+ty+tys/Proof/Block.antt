@@ -2,21 +2,21 @@
 use Prim.Native.Nat.{ℕ}
 use mathlib.Core.Path.{_∙_}
 use Rattle.reading.specs.Does.{then}
-use Rattle.readers.specs.Same.{regrouped}
-use Rattle.readers.specs.Segments.{block-same}
+use Rattle.answers.specs.Same.{regrouped}
+use Rattle.answers.specs.Segments.{block-same}
 use Rattle.readers.specs.Level.{no-block, block-level}
 use borrow.Author.Needs.{needs}
 use native.Mathlib.Omega.{arith}
 use Rattle.readers.proofs.+alts+arm+arms+atom+bare+bind+block+call+comp+cond+elems+elif+expr+field+fork+func+idx+init+inits+inner+key+lit+mem+meth+must+par+paren+pars+pick+post+put+rep+ret+seq+sig+stmt+strct+test+tuple+ty+tys.Lts-block as lts
 use Rattle.readers.proofs.block.Reads as block-reads
 use Rattle.readers.proofs.too_deep.Reads as readers·too-deep-reads
-use Rattle.steps.proofs.open_block.Reads as steps·open-block-reads
+use Rattle.stages.proofs.open_block.Reads as stages·open-block-reads
 use Rattle.readers.proofs.seq.Reads as seq-reads
 use Rattle.parts.proofs.close_block.Reads as parts·close-block-reads
 use Rattle.readers.proofs.+alts+arm+arms+atom+bare+bind+block+call+comp+cond+elems+elif+expr+field+fork+func+idx+init+inits+inner+key+lit+mem+meth+must+par+paren+pars+pick+post+put+rep+ret+seq+sig+stmt+strct+test+tuple+ty+tys.Proof.Measures.{block-at, seq-below}
 
 abbrev cs : ℕ → lts.Claims
-cs t = (readers·too-deep-reads.Asked, readers·too-deep-reads.Learnt, steps·open-block-reads.Asked, steps·open-block-reads.Learnt, seq-below t, seq-reads.Post, parts·close-block-reads.Asked, parts·close-block-reads.Learnt)
+cs t = (readers·too-deep-reads.Asked, readers·too-deep-reads.Learnt, stages·open-block-reads.Asked, stages·open-block-reads.Learnt, seq-below t, seq-reads.Post, parts·close-block-reads.Asked, parts·close-block-reads.Learnt)
 
 module _ (t : ℕ) where
   returns : lts.Need-returns (cs t) (block-at t) block-reads.Post

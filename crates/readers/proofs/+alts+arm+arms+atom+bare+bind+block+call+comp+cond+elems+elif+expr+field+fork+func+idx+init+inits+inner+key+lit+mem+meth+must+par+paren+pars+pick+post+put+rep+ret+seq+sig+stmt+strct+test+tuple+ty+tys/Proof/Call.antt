@@ -2,19 +2,19 @@
 use Prim.Native.Nat.{ℕ}
 use mathlib.Core.Path.{_∙_}
 use Rattle.reading.specs.Does.{then}
-use Rattle.readers.specs.Same.{regrouped}
-use Rattle.readers.specs.Segments.{call-same}
+use Rattle.answers.specs.Same.{regrouped}
+use Rattle.answers.specs.Segments.{call-same}
 use borrow.Author.Needs.{needs}
 use native.Mathlib.Omega.{arith}
 use Rattle.readers.proofs.+alts+arm+arms+atom+bare+bind+block+call+comp+cond+elems+elif+expr+field+fork+func+idx+init+inits+inner+key+lit+mem+meth+must+par+paren+pars+pick+post+put+rep+ret+seq+sig+stmt+strct+test+tuple+ty+tys.Lts-call as lts
 use Rattle.readers.proofs.call.Reads as call-reads
 use Rattle.steps.proofs.open_call.Reads as steps·open-call-reads
 use Rattle.readers.proofs.elems.Reads as elems-reads
-use Rattle.steps.proofs.end_node.Reads as steps·end-node-reads
+use Rattle.stages.proofs.end_node.Reads as stages·end-node-reads
 use Rattle.readers.proofs.+alts+arm+arms+atom+bare+bind+block+call+comp+cond+elems+elif+expr+field+fork+func+idx+init+inits+inner+key+lit+mem+meth+must+par+paren+pars+pick+post+put+rep+ret+seq+sig+stmt+strct+test+tuple+ty+tys.Proof.Measures.{call-at, elems-below}
 
 abbrev cs : ℕ → lts.Claims
-cs t = (steps·open-call-reads.Asked, steps·open-call-reads.Learnt, elems-below t, elems-reads.Post, steps·end-node-reads.Asked, steps·end-node-reads.Learnt)
+cs t = (steps·open-call-reads.Asked, steps·open-call-reads.Learnt, elems-below t, elems-reads.Post, stages·end-node-reads.Asked, stages·end-node-reads.Learnt)
 
 module _ (t : ℕ) where
   returns : lts.Need-returns (cs t) (call-at t) call-reads.Post

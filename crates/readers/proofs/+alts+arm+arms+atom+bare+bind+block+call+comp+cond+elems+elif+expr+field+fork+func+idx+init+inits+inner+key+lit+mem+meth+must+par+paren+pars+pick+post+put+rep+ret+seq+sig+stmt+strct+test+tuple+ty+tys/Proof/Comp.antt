@@ -12,11 +12,11 @@ use Rattle.readers.proofs.block.Reads as block-reads
 use Rattle.stream.proofs.eat.Reads as stream·eat-reads
 use Rattle.readers.proofs.bind.Reads as bind-reads
 use Rattle.readers.proofs.whole.Reads as readers·whole-reads
-use Rattle.parts.proofs.comptime_error.Reads as parts·comptime-error-reads
+use Rattle.clauses.proofs.comptime_error.Reads as clauses·comptime-error-reads
 use Rattle.readers.proofs.+alts+arm+arms+atom+bare+bind+block+call+comp+cond+elems+elif+expr+field+fork+func+idx+init+inits+inner+key+lit+mem+meth+must+par+paren+pars+pick+post+put+rep+ret+seq+sig+stmt+strct+test+tuple+ty+tys.Proof.Measures.{comp-at, block-below, bind-below}
 
 abbrev cs : ℕ → lts.Claims
-cs t = (stream·check-reads.Asked, stream·check-reads.Learnt, block-below t, block-reads.Post, stream·eat-reads.Asked, stream·eat-reads.Learnt, bind-below t, bind-reads.Post, readers·whole-reads.Asked, readers·whole-reads.Learnt, parts·comptime-error-reads.Asked, parts·comptime-error-reads.Learnt)
+cs t = (stream·check-reads.Asked, stream·check-reads.Learnt, block-below t, block-reads.Post, stream·eat-reads.Asked, stream·eat-reads.Learnt, bind-below t, bind-reads.Post, readers·whole-reads.Asked, readers·whole-reads.Learnt, clauses·comptime-error-reads.Asked, clauses·comptime-error-reads.Learnt)
 
 module _ (t : ℕ) where
   returns : lts.Need-returns (cs t) (comp-at t) comp-reads.Post

@@ -11,11 +11,11 @@ use Prim.Native.Nat.{_-_}
 use Rattle.definition.specs.Expressions.{exprTurn}
 use Rattle.definition.specs.Prog.{Memory, enterExpr}
 use Rattle.reading.specs.declared.Reading.{Reading}
-use Rattle.readers.specs.Programs.{lastRest}
+use Rattle.answers.specs.Programs.{lastRest}
 use Rattle.reading.specs.Does.{Does, then, gives, Turns, first-turn, next-turn, last-turn, no-turn-left, refused-turn}
 use Rattle.cst.specs.Cst.{maybe}
-use Rattle.readers.specs.Same.{regrouped}
-use Rattle.readers.specs.Segments.{turn-same, expr-same}
+use Rattle.answers.specs.Same.{regrouped}
+use Rattle.answers.specs.Segments.{turn-same, expr-same}
 use Rattle.readers.specs.Level.{no-expr, expr-level}
 use borrow.Author.Needs.{needs}
 use native.Mathlib.Omega.{arith}

@@ -5,7 +5,7 @@ use Rattle.words.specs.Token
 use Rattle.definition.specs.Expressions.{blockHere, conditional, matchExpr, tryParseConditional, tryParseMatch}
 use Rattle.reading.specs.Does.{then, gives}
 use Rattle.cst.specs.Laws.{position-is}
-use Rattle.parts.specs.Rules.{or-missed, eats-found, eats-missed, checks-found, checks-missed}
+use Rattle.answers.specs.Rules.{or-missed, eats-found, eats-missed, checks-found, checks-missed}
 use borrow.Author.Needs.{needs}
 use native.Mathlib.Omega.{arith}
 use Rattle.readers.proofs.+alts+arm+arms+atom+bare+bind+block+call+comp+cond+elems+elif+expr+field+fork+func+idx+init+inits+inner+key+lit+mem+meth+must+par+paren+pars+pick+post+put+rep+ret+seq+sig+stmt+strct+test+tuple+ty+tys.Lts-fork as lts

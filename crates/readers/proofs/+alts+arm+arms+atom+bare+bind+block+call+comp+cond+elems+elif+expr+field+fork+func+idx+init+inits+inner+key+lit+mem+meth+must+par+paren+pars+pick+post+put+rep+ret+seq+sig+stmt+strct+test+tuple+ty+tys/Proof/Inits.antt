@@ -15,8 +15,8 @@ use Rattle.readers.proofs.inits.Reads as inits-reads
 use Rattle.stream.proofs.turns_of.Reads as stream·turns-of-reads
 use Rattle.readers.proofs.init.Reads as init-reads
 use Rattle.stream.proofs.eat.Reads as stream·eat-reads
-use Rattle.stream.proofs.list_ends.Reads as stream·list-ends-reads
-use Rattle.stream.proofs.pass_unexpected.Reads as stream·pass-unexpected-reads
+use Rattle.recovery.proofs.list_ends.Reads as recovery·list-ends-reads
+use Rattle.recovery.proofs.pass_unexpected.Reads as recovery·pass-unexpected-reads
 use Rattle.readers.proofs.+alts+arm+arms+atom+bare+bind+block+call+comp+cond+elems+elif+expr+field+fork+func+idx+init+inits+inner+key+lit+mem+meth+must+par+paren+pars+pick+post+put+rep+ret+seq+sig+stmt+strct+test+tuple+ty+tys.Proof.Measures.{inits-at, init-below}
 
 abbrev Inv-loop : lts.InvT-loop
@@ -28,7 +28,7 @@ abbrev μ-loop : lts.MeasureT-loop
 μ-loop d text tokens nodes₀ values₀ reports₀ turns₀ list₀ emitted₀ at₀ nodes values reports turns list emitted at = turns
 
 abbrev cs : ℕ → lts.Claims
-cs t = (stream·turns-of-reads.Asked, stream·turns-of-reads.Learnt, init-below t, init-reads.Post, stream·eat-reads.Asked, stream·eat-reads.Learnt, stream·list-ends-reads.Asked, stream·list-ends-reads.Learnt, stream·pass-unexpected-reads.Asked, stream·pass-unexpected-reads.Learnt)
+cs t = (stream·turns-of-reads.Asked, stream·turns-of-reads.Learnt, init-below t, init-reads.Post, stream·eat-reads.Asked, stream·eat-reads.Learnt, recovery·list-ends-reads.Asked, recovery·list-ends-reads.Learnt, recovery·pass-unexpected-reads.Asked, recovery·pass-unexpected-reads.Learnt)
 
 module _ (t : ℕ) where
   loop-holds : lts.Need-loop-holds (cs t) (inits-at t) inits-reads.Post Inv-loop μ-loop

@@ -10,13 +10,13 @@ use Rattle.definition.specs.Tokens.{eof}
 use Rattle.definition.specs.Expressions.{memberTurn, methodTurn, members}
 use Rattle.definition.specs.Statements.{body}
 use Rattle.reading.specs.Does.{then, gives, when-true, when-false, Turns, first-turn, next-turn, last-turn, no-turn-left, refused-turn}
-use Rattle.parts.specs.Rules.{one-of}
+use Rattle.answers.specs.Rules.{one-of}
 use borrow.Author.Needs.{needs}
 use native.Mathlib.Omega.{arith}
 use Rattle.readers.proofs.+alts+arm+arms+atom+bare+bind+block+call+comp+cond+elems+elif+expr+field+fork+func+idx+init+inits+inner+key+lit+mem+meth+must+par+paren+pars+pick+post+put+rep+ret+seq+sig+stmt+strct+test+tuple+ty+tys.Lts-inner as lts
 use Rattle.readers.proofs.inner.Reads as inner-reads
 use Rattle.stream.proofs.turns_of.Reads as stream·turns-of-reads
-use Rattle.parts.proofs.one_of.Reads as parts·one-of-reads
+use Rattle.clauses.proofs.one_of.Reads as clauses·one-of-reads
 use Rattle.readers.proofs.meth.Reads as meth-reads
 use Rattle.cst.proofs.push_child.Reads as cst·push-child-reads
 use Rattle.readers.proofs.mem.Reads as mem-reads
@@ -31,7 +31,7 @@ abbrev μ-loop : lts.MeasureT-loop
 μ-loop d text tokens nodes₀ values₀ reports₀ turns₀ body₀ seen₀ at₀ nodes values reports turns body seen at = turns
 
 abbrev cs : ℕ → lts.Claims
-cs t = (stream·turns-of-reads.Asked, stream·turns-of-reads.Learnt, parts·one-of-reads.Asked, parts·one-of-reads.Learnt, meth-below t, meth-reads.Post, cst·push-child-reads.Asked, cst·push-child-reads.Learnt, mem-below t, mem-reads.Post)
+cs t = (stream·turns-of-reads.Asked, stream·turns-of-reads.Learnt, clauses·one-of-reads.Asked, clauses·one-of-reads.Learnt, meth-below t, meth-reads.Post, cst·push-child-reads.Asked, cst·push-child-reads.Learnt, mem-below t, mem-reads.Post)
 
 module _ (t : ℕ) where
   loop-holds : lts.Need-loop-holds (cs t) (inner-at t) inner-reads.Post Inv-loop μ-loop

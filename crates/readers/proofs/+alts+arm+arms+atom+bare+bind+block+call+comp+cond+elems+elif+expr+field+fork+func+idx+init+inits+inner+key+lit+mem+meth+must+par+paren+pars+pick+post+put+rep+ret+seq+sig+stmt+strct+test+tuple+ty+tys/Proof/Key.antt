@@ -8,14 +8,14 @@ use native.Mathlib.Omega.{arith}
 use Rattle.readers.proofs.+alts+arm+arms+atom+bare+bind+block+call+comp+cond+elems+elif+expr+field+fork+func+idx+init+inits+inner+key+lit+mem+meth+must+par+paren+pars+pick+post+put+rep+ret+seq+sig+stmt+strct+test+tuple+ty+tys.Lts-key as lts
 use Rattle.readers.proofs.key.Reads as key-reads
 use Rattle.stream.proofs.eat.Reads as stream·eat-reads
-use Rattle.parts.proofs.fallback_arm.Reads as parts·fallback-arm-reads
+use Rattle.clauses.proofs.fallback_arm.Reads as clauses·fallback-arm-reads
 use Rattle.cst.proofs.open_here.Reads as cst·open-here-reads
 use Rattle.readers.proofs.must.Reads as must-reads
 use Rattle.cst.proofs.push_child.Reads as cst·push-child-reads
 use Rattle.readers.proofs.+alts+arm+arms+atom+bare+bind+block+call+comp+cond+elems+elif+expr+field+fork+func+idx+init+inits+inner+key+lit+mem+meth+must+par+paren+pars+pick+post+put+rep+ret+seq+sig+stmt+strct+test+tuple+ty+tys.Proof.Measures.{key-at, must-below}
 
 abbrev cs : ℕ → lts.Claims
-cs t = (stream·eat-reads.Asked, stream·eat-reads.Learnt, parts·fallback-arm-reads.Asked, parts·fallback-arm-reads.Learnt, cst·open-here-reads.Asked, cst·open-here-reads.Learnt, must-below t, must-reads.Post, cst·push-child-reads.Asked, cst·push-child-reads.Learnt)
+cs t = (stream·eat-reads.Asked, stream·eat-reads.Learnt, clauses·fallback-arm-reads.Asked, clauses·fallback-arm-reads.Learnt, cst·open-here-reads.Asked, cst·open-here-reads.Learnt, must-below t, must-reads.Post, cst·push-child-reads.Asked, cst·push-child-reads.Learnt)
 
 module _ (t : ℕ) where
   returns : lts.Need-returns (cs t) (key-at t) key-reads.Post

@@ -2,19 +2,19 @@
 use Prim.Native.Nat.{ℕ}
 use mathlib.Core.Path.{_∙_}
 use Rattle.reading.specs.Does.{then}
-use Rattle.readers.specs.Same.{regrouped}
-use Rattle.readers.specs.Segments.{literal-same}
+use Rattle.answers.specs.Same.{regrouped}
+use Rattle.answers.specs.Segments.{literal-same}
 use borrow.Author.Needs.{needs}
 use native.Mathlib.Omega.{arith}
 use Rattle.readers.proofs.+alts+arm+arms+atom+bare+bind+block+call+comp+cond+elems+elif+expr+field+fork+func+idx+init+inits+inner+key+lit+mem+meth+must+par+paren+pars+pick+post+put+rep+ret+seq+sig+stmt+strct+test+tuple+ty+tys.Lts-lit as lts
 use Rattle.readers.proofs.lit.Reads as lit-reads
 use Rattle.steps.proofs.open_call.Reads as steps·open-call-reads
 use Rattle.readers.proofs.inits.Reads as inits-reads
-use Rattle.steps.proofs.end_node.Reads as steps·end-node-reads
+use Rattle.stages.proofs.end_node.Reads as stages·end-node-reads
 use Rattle.readers.proofs.+alts+arm+arms+atom+bare+bind+block+call+comp+cond+elems+elif+expr+field+fork+func+idx+init+inits+inner+key+lit+mem+meth+must+par+paren+pars+pick+post+put+rep+ret+seq+sig+stmt+strct+test+tuple+ty+tys.Proof.Measures.{lit-at, inits-below}
 
 abbrev cs : ℕ → lts.Claims
-cs t = (steps·open-call-reads.Asked, steps·open-call-reads.Learnt, inits-below t, inits-reads.Post, steps·end-node-reads.Asked, steps·end-node-reads.Learnt)
+cs t = (steps·open-call-reads.Asked, steps·open-call-reads.Learnt, inits-below t, inits-reads.Post, stages·end-node-reads.Asked, stages·end-node-reads.Learnt)
 
 module _ (t : ℕ) where
   returns : lts.Need-returns (cs t) (lit-at t) lit-reads.Post

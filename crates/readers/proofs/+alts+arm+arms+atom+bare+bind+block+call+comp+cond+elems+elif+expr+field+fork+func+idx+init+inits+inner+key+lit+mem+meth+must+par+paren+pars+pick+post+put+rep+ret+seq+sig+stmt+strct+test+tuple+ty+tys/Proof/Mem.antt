@@ -8,14 +8,14 @@ use native.Mathlib.Omega.{arith}
 use Rattle.readers.proofs.+alts+arm+arms+atom+bare+bind+block+call+comp+cond+elems+elif+expr+field+fork+func+idx+init+inits+inner+key+lit+mem+meth+must+par+paren+pars+pick+post+put+rep+ret+seq+sig+stmt+strct+test+tuple+ty+tys.Lts-mem as lts
 use Rattle.readers.proofs.mem.Reads as mem-reads
 use Rattle.stream.proofs.check.Reads as stream·check-reads
-use Rattle.parts.proofs.note_field.Reads as parts·note-field-reads
+use Rattle.clauses.proofs.note_field.Reads as clauses·note-field-reads
 use Rattle.readers.proofs.field.Reads as field-reads
-use Rattle.steps.proofs.after_field.Reads as steps·after-field-reads
-use Rattle.parts.proofs.no_member.Reads as parts·no-member-reads
+use Rattle.stages.proofs.after_field.Reads as stages·after-field-reads
+use Rattle.clauses.proofs.no_member.Reads as clauses·no-member-reads
 use Rattle.readers.proofs.+alts+arm+arms+atom+bare+bind+block+call+comp+cond+elems+elif+expr+field+fork+func+idx+init+inits+inner+key+lit+mem+meth+must+par+paren+pars+pick+post+put+rep+ret+seq+sig+stmt+strct+test+tuple+ty+tys.Proof.Measures.{mem-at, field-below}
 
 abbrev cs : ℕ → lts.Claims
-cs t = (stream·check-reads.Asked, stream·check-reads.Learnt, parts·note-field-reads.Asked, parts·note-field-reads.Learnt, field-below t, field-reads.Post, steps·after-field-reads.Asked, steps·after-field-reads.Learnt, parts·no-member-reads.Asked, parts·no-member-reads.Learnt)
+cs t = (stream·check-reads.Asked, stream·check-reads.Learnt, clauses·note-field-reads.Asked, clauses·note-field-reads.Learnt, field-below t, field-reads.Post, stages·after-field-reads.Asked, stages·after-field-reads.Learnt, clauses·no-member-reads.Asked, clauses·no-member-reads.Learnt)
 
 module _ (t : ℕ) where
   returns : lts.Need-returns (cs t) (mem-at t) mem-reads.Post

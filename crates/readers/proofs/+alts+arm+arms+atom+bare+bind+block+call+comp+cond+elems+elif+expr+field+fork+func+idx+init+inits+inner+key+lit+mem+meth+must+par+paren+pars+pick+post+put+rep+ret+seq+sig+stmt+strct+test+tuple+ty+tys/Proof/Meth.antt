@@ -2,19 +2,19 @@
 use Prim.Native.Nat.{ℕ}
 use mathlib.Core.Path.{_∙_}
 use Rattle.reading.specs.Does.{then}
-use Rattle.readers.specs.Same.{regrouped}
-use Rattle.readers.specs.Segments.{method-same}
+use Rattle.answers.specs.Same.{regrouped}
+use Rattle.answers.specs.Segments.{method-same}
 use borrow.Author.Needs.{needs}
 use native.Mathlib.Omega.{arith}
 use Rattle.readers.proofs.+alts+arm+arms+atom+bare+bind+block+call+comp+cond+elems+elif+expr+field+fork+func+idx+init+inits+inner+key+lit+mem+meth+must+par+paren+pars+pick+post+put+rep+ret+seq+sig+stmt+strct+test+tuple+ty+tys.Lts-meth as lts
 use Rattle.readers.proofs.meth.Reads as meth-reads
-use Rattle.steps.proofs.open_method.Reads as steps·open-method-reads
+use Rattle.stages.proofs.open_method.Reads as stages·open-method-reads
 use Rattle.readers.proofs.sig.Reads as sig-reads
 use Rattle.cst.proofs.close_node.Reads as cst·close-node-reads
 use Rattle.readers.proofs.+alts+arm+arms+atom+bare+bind+block+call+comp+cond+elems+elif+expr+field+fork+func+idx+init+inits+inner+key+lit+mem+meth+must+par+paren+pars+pick+post+put+rep+ret+seq+sig+stmt+strct+test+tuple+ty+tys.Proof.Measures.{meth-at, sig-below}
 
 abbrev cs : ℕ → lts.Claims
-cs t = (steps·open-method-reads.Asked, steps·open-method-reads.Learnt, sig-below t, sig-reads.Post, cst·close-node-reads.Asked, cst·close-node-reads.Learnt)
+cs t = (stages·open-method-reads.Asked, stages·open-method-reads.Learnt, sig-below t, sig-reads.Post, cst·close-node-reads.Asked, cst·close-node-reads.Learnt)
 
 module _ (t : ℕ) where
   returns : lts.Need-returns (cs t) (meth-at t) meth-reads.Post

@@ -2,19 +2,19 @@
 use Prim.Native.Nat.{ℕ}
 use mathlib.Core.Path.{_∙_}
 use Rattle.reading.specs.Does.{then, gives}
-use Rattle.readers.specs.Same.{regrouped}
-use Rattle.readers.specs.Segments.{param-same}
+use Rattle.answers.specs.Same.{regrouped}
+use Rattle.answers.specs.Segments.{param-same}
 use borrow.Author.Needs.{needs}
 use native.Mathlib.Omega.{arith}
 use Rattle.readers.proofs.+alts+arm+arms+atom+bare+bind+block+call+comp+cond+elems+elif+expr+field+fork+func+idx+init+inits+inner+key+lit+mem+meth+must+par+paren+pars+pick+post+put+rep+ret+seq+sig+stmt+strct+test+tuple+ty+tys.Lts-par as lts
 use Rattle.readers.proofs.par.Reads as par-reads
-use Rattle.steps.proofs.param_head.Reads as steps·param-head-reads
+use Rattle.stages.proofs.param_head.Reads as stages·param-head-reads
 use Rattle.parts.proofs.add_element.Reads as parts·add-element-reads
 use Rattle.readers.proofs.must.Reads as must-reads
 use Rattle.readers.proofs.+alts+arm+arms+atom+bare+bind+block+call+comp+cond+elems+elif+expr+field+fork+func+idx+init+inits+inner+key+lit+mem+meth+must+par+paren+pars+pick+post+put+rep+ret+seq+sig+stmt+strct+test+tuple+ty+tys.Proof.Measures.{par-at, must-below}
 
 abbrev cs : ℕ → lts.Claims
-cs t = (steps·param-head-reads.Asked, steps·param-head-reads.Learnt, parts·add-element-reads.Asked, parts·add-element-reads.Learnt, must-below t, must-reads.Post)
+cs t = (stages·param-head-reads.Asked, stages·param-head-reads.Learnt, parts·add-element-reads.Asked, parts·add-element-reads.Learnt, must-below t, must-reads.Post)
 
 module _ (t : ℕ) where
   returns : lts.Need-returns (cs t) (par-at t) par-reads.Post

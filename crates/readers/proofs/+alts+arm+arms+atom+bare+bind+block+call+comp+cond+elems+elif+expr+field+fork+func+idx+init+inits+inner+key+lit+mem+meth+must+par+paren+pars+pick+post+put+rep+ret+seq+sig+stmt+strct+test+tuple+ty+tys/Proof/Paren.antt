@@ -2,8 +2,8 @@
 use Prim.Native.Nat.{ℕ}
 use mathlib.Core.Path.{_∙_}
 use Rattle.reading.specs.Does.{then, gives, when-true, when-false}
-use Rattle.readers.specs.Same.{regrouped}
-use Rattle.readers.specs.Segments.{paren-same}
+use Rattle.answers.specs.Same.{regrouped}
+use Rattle.answers.specs.Segments.{paren-same}
 use borrow.Author.Needs.{needs}
 use native.Mathlib.Omega.{arith}
 use Rattle.readers.proofs.+alts+arm+arms+atom+bare+bind+block+call+comp+cond+elems+elif+expr+field+fork+func+idx+init+inits+inner+key+lit+mem+meth+must+par+paren+pars+pick+post+put+rep+ret+seq+sig+stmt+strct+test+tuple+ty+tys.Lts-paren as lts
@@ -12,11 +12,11 @@ use Rattle.steps.proofs.paren_start.Reads as steps·paren-start-reads
 use Rattle.readers.proofs.must.Reads as must-reads
 use Rattle.steps.proofs.paren_comma.Reads as steps·paren-comma-reads
 use Rattle.readers.proofs.tuple.Reads as tuple-reads
-use Rattle.steps.proofs.end_node.Reads as steps·end-node-reads
+use Rattle.stages.proofs.end_node.Reads as stages·end-node-reads
 use Rattle.readers.proofs.+alts+arm+arms+atom+bare+bind+block+call+comp+cond+elems+elif+expr+field+fork+func+idx+init+inits+inner+key+lit+mem+meth+must+par+paren+pars+pick+post+put+rep+ret+seq+sig+stmt+strct+test+tuple+ty+tys.Proof.Measures.{paren-at, must-below, tuple-below}
 
 abbrev cs : ℕ → lts.Claims
-cs t = (steps·paren-start-reads.Asked, steps·paren-start-reads.Learnt, must-below t, must-reads.Post, steps·paren-comma-reads.Asked, steps·paren-comma-reads.Learnt, tuple-below t, tuple-reads.Post, steps·end-node-reads.Asked, steps·end-node-reads.Learnt)
+cs t = (steps·paren-start-reads.Asked, steps·paren-start-reads.Learnt, must-below t, must-reads.Post, steps·paren-comma-reads.Asked, steps·paren-comma-reads.Learnt, tuple-below t, tuple-reads.Post, stages·end-node-reads.Asked, stages·end-node-reads.Learnt)
 
 module _ (t : ℕ) where
   returns : lts.Need-returns (cs t) (paren-at t) paren-reads.Post

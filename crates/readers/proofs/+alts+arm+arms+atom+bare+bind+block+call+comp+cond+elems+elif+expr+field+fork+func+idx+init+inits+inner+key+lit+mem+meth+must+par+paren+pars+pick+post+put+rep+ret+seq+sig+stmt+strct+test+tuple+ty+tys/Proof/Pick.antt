@@ -2,21 +2,21 @@
 use Prim.Native.Nat.{ℕ}
 use mathlib.Core.Path.{_∙_}
 use Rattle.reading.specs.Does.{then}
-use Rattle.readers.specs.Same.{regrouped}
-use Rattle.readers.specs.Segments.{select-same}
+use Rattle.answers.specs.Same.{regrouped}
+use Rattle.answers.specs.Segments.{select-same}
 use borrow.Author.Needs.{needs}
 use native.Mathlib.Omega.{arith}
 use Rattle.readers.proofs.+alts+arm+arms+atom+bare+bind+block+call+comp+cond+elems+elif+expr+field+fork+func+idx+init+inits+inner+key+lit+mem+meth+must+par+paren+pars+pick+post+put+rep+ret+seq+sig+stmt+strct+test+tuple+ty+tys.Lts-pick as lts
 use Rattle.readers.proofs.pick.Reads as pick-reads
 use Rattle.cst.proofs.open_from.Reads as cst·open-from-reads
 use Rattle.readers.proofs.must.Reads as must-reads
-use Rattle.steps.proofs.open_arms.Reads as steps·open-arms-reads
+use Rattle.stages.proofs.open_arms.Reads as stages·open-arms-reads
 use Rattle.readers.proofs.arms.Reads as arms-reads
 use Rattle.steps.proofs.end_body.Reads as steps·end-body-reads
 use Rattle.readers.proofs.+alts+arm+arms+atom+bare+bind+block+call+comp+cond+elems+elif+expr+field+fork+func+idx+init+inits+inner+key+lit+mem+meth+must+par+paren+pars+pick+post+put+rep+ret+seq+sig+stmt+strct+test+tuple+ty+tys.Proof.Measures.{pick-at, must-below, arms-below}
 
 abbrev cs : ℕ → lts.Claims
-cs t = (cst·open-from-reads.Asked, cst·open-from-reads.Learnt, must-below t, must-reads.Post, steps·open-arms-reads.Asked, steps·open-arms-reads.Learnt, arms-below t, arms-reads.Post, steps·end-body-reads.Asked, steps·end-body-reads.Learnt)
+cs t = (cst·open-from-reads.Asked, cst·open-from-reads.Learnt, must-below t, must-reads.Post, stages·open-arms-reads.Asked, stages·open-arms-reads.Learnt, arms-below t, arms-reads.Post, steps·end-body-reads.Asked, steps·end-body-reads.Learnt)
 
 module _ (t : ℕ) where
   returns : lts.Need-returns (cs t) (pick-at t) pick-reads.Post

@@ -2,19 +2,19 @@
 use Prim.Native.Nat.{ℕ}
 use mathlib.Core.Path.{_∙_}
 use Rattle.reading.specs.Does.{then}
-use Rattle.readers.specs.Same.{regrouped}
-use Rattle.readers.specs.Segments.{assign-same}
+use Rattle.answers.specs.Same.{regrouped}
+use Rattle.answers.specs.Segments.{assign-same}
 use borrow.Author.Needs.{needs}
 use native.Mathlib.Omega.{arith}
 use Rattle.readers.proofs.+alts+arm+arms+atom+bare+bind+block+call+comp+cond+elems+elif+expr+field+fork+func+idx+init+inits+inner+key+lit+mem+meth+must+par+paren+pars+pick+post+put+rep+ret+seq+sig+stmt+strct+test+tuple+ty+tys.Lts-put as lts
 use Rattle.readers.proofs.put.Reads as put-reads
-use Rattle.steps.proofs.open_assign.Reads as steps·open-assign-reads
+use Rattle.stages.proofs.open_assign.Reads as stages·open-assign-reads
 use Rattle.readers.proofs.must.Reads as must-reads
 use Rattle.parts.proofs.end_stmt.Reads as parts·end-stmt-reads
 use Rattle.readers.proofs.+alts+arm+arms+atom+bare+bind+block+call+comp+cond+elems+elif+expr+field+fork+func+idx+init+inits+inner+key+lit+mem+meth+must+par+paren+pars+pick+post+put+rep+ret+seq+sig+stmt+strct+test+tuple+ty+tys.Proof.Measures.{put-at, must-below}
 
 abbrev cs : ℕ → lts.Claims
-cs t = (steps·open-assign-reads.Asked, steps·open-assign-reads.Learnt, must-below t, must-reads.Post, parts·end-stmt-reads.Asked, parts·end-stmt-reads.Learnt)
+cs t = (stages·open-assign-reads.Asked, stages·open-assign-reads.Learnt, must-below t, must-reads.Post, parts·end-stmt-reads.Asked, parts·end-stmt-reads.Learnt)
 
 module _ (t : ℕ) where
   returns : lts.Need-returns (cs t) (put-at t) put-reads.Post

@@ -15,7 +15,7 @@ use Rattle.readers.proofs.seq.Reads as seq-reads
 use Rattle.stream.proofs.turns_of.Reads as stream·turns-of-reads
 use Rattle.stream.proofs.check.Reads as stream·check-reads
 use Rattle.readers.proofs.stmt.Reads as stmt-reads
-use Rattle.steps.proofs.add_stmt.Reads as steps·add-stmt-reads
+use Rattle.stages.proofs.add_stmt.Reads as stages·add-stmt-reads
 use Rattle.readers.proofs.+alts+arm+arms+atom+bare+bind+block+call+comp+cond+elems+elif+expr+field+fork+func+idx+init+inits+inner+key+lit+mem+meth+must+par+paren+pars+pick+post+put+rep+ret+seq+sig+stmt+strct+test+tuple+ty+tys.Proof.Measures.{seq-at, stmt-below}
 
 abbrev Inv-loop : lts.InvT-loop
@@ -27,7 +27,7 @@ abbrev μ-loop : lts.MeasureT-loop
 μ-loop d text tokens nodes₀ values₀ reports₀ turns₀ list₀ closing₀ at₀ nodes values reports turns list closing at = turns
 
 abbrev cs : ℕ → lts.Claims
-cs t = (stream·turns-of-reads.Asked, stream·turns-of-reads.Learnt, stream·check-reads.Asked, stream·check-reads.Learnt, stmt-below t, stmt-reads.Post, steps·add-stmt-reads.Asked, steps·add-stmt-reads.Learnt)
+cs t = (stream·turns-of-reads.Asked, stream·turns-of-reads.Learnt, stream·check-reads.Asked, stream·check-reads.Learnt, stmt-below t, stmt-reads.Post, stages·add-stmt-reads.Asked, stages·add-stmt-reads.Learnt)
 
 module _ (t : ℕ) where
   loop-holds : lts.Need-loop-holds (cs t) (seq-at t) seq-reads.Post Inv-loop μ-loop

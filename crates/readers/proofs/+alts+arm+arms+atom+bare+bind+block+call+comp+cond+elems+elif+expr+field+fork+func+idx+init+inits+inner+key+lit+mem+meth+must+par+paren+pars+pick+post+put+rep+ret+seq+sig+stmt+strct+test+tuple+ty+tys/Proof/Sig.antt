@@ -2,20 +2,20 @@
 use Prim.Native.Nat.{ℕ}
 use mathlib.Core.Path.{_∙_}
 use Rattle.reading.specs.Does.{then}
-use Rattle.readers.specs.Same.{regrouped}
-use Rattle.readers.specs.Segments.{sign-same}
+use Rattle.answers.specs.Same.{regrouped}
+use Rattle.answers.specs.Segments.{sign-same}
 use borrow.Author.Needs.{needs}
 use native.Mathlib.Omega.{arith}
 use Rattle.readers.proofs.+alts+arm+arms+atom+bare+bind+block+call+comp+cond+elems+elif+expr+field+fork+func+idx+init+inits+inner+key+lit+mem+meth+must+par+paren+pars+pick+post+put+rep+ret+seq+sig+stmt+strct+test+tuple+ty+tys.Lts-sig as lts
 use Rattle.readers.proofs.sig.Reads as sig-reads
-use Rattle.steps.proofs.open_list.Reads as steps·open-list-reads
+use Rattle.stages.proofs.open_list.Reads as stages·open-list-reads
 use Rattle.readers.proofs.pars.Reads as pars-reads
 use Rattle.steps.proofs.end_list.Reads as steps·end-list-reads
 use Rattle.readers.proofs.test.Reads as test-reads
 use Rattle.readers.proofs.+alts+arm+arms+atom+bare+bind+block+call+comp+cond+elems+elif+expr+field+fork+func+idx+init+inits+inner+key+lit+mem+meth+must+par+paren+pars+pick+post+put+rep+ret+seq+sig+stmt+strct+test+tuple+ty+tys.Proof.Measures.{sig-at, pars-below, test-below}
 
 abbrev cs : ℕ → lts.Claims
-cs t = (steps·open-list-reads.Asked, steps·open-list-reads.Learnt, pars-below t, pars-reads.Post, steps·end-list-reads.Asked, steps·end-list-reads.Learnt, test-below t, test-reads.Post)
+cs t = (stages·open-list-reads.Asked, stages·open-list-reads.Learnt, pars-below t, pars-reads.Post, steps·end-list-reads.Asked, steps·end-list-reads.Learnt, test-below t, test-reads.Post)
 
 module _ (t : ℕ) where
   returns : lts.Need-returns (cs t) (sig-at t) sig-reads.Post

@@ -4,9 +4,9 @@ use mathlib.Core.Path.{_∙_}
 use Rattle.definition.specs.Statements.{letStmt, exprStmt}
 use Rattle.reading.specs.Does.{then, gives}
 use Rattle.cst.specs.Laws.{position-is}
-use Rattle.readers.specs.Programs.{stmtWays}
-use Rattle.readers.specs.Same.{regrouped, taken-none}
-use Rattle.readers.specs.Segments.{stmt-same}
+use Rattle.answers.specs.Programs.{stmtWays}
+use Rattle.answers.specs.Same.{regrouped, taken-none}
+use Rattle.answers.specs.Segments.{stmt-same}
 use borrow.Author.Needs.{needs}
 use native.Mathlib.Omega.{arith}
 use Rattle.readers.proofs.+alts+arm+arms+atom+bare+bind+block+call+comp+cond+elems+elif+expr+field+fork+func+idx+init+inits+inner+key+lit+mem+meth+must+par+paren+pars+pick+post+put+rep+ret+seq+sig+stmt+strct+test+tuple+ty+tys.Lts-stmt as lts

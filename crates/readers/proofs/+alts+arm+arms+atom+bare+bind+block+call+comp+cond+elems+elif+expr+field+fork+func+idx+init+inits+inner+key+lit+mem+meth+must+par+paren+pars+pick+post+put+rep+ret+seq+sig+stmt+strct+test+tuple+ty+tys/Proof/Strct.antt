@@ -2,21 +2,21 @@
 use Prim.Native.Nat.{ℕ}
 use mathlib.Core.Path.{_∙_}
 use Rattle.reading.specs.Does.{then}
-use Rattle.readers.specs.Same.{regrouped}
-use Rattle.readers.specs.Segments.{record-same}
+use Rattle.answers.specs.Same.{regrouped}
+use Rattle.answers.specs.Segments.{record-same}
 use borrow.Author.Needs.{needs}
 use native.Mathlib.Omega.{arith}
 use Rattle.readers.proofs.+alts+arm+arms+atom+bare+bind+block+call+comp+cond+elems+elif+expr+field+fork+func+idx+init+inits+inner+key+lit+mem+meth+must+par+paren+pars+pick+post+put+rep+ret+seq+sig+stmt+strct+test+tuple+ty+tys.Lts-strct as lts
 use Rattle.readers.proofs.strct.Reads as strct-reads
 use Rattle.cst.proofs.open_from.Reads as cst·open-from-reads
 use Rattle.readers.proofs.idx.Reads as idx-reads
-use Rattle.steps.proofs.open_body.Reads as steps·open-body-reads
+use Rattle.stages.proofs.open_body.Reads as stages·open-body-reads
 use Rattle.readers.proofs.inner.Reads as inner-reads
 use Rattle.steps.proofs.end_body.Reads as steps·end-body-reads
 use Rattle.readers.proofs.+alts+arm+arms+atom+bare+bind+block+call+comp+cond+elems+elif+expr+field+fork+func+idx+init+inits+inner+key+lit+mem+meth+must+par+paren+pars+pick+post+put+rep+ret+seq+sig+stmt+strct+test+tuple+ty+tys.Proof.Measures.{strct-at, idx-below, inner-below}
 
 abbrev cs : ℕ → lts.Claims
-cs t = (cst·open-from-reads.Asked, cst·open-from-reads.Learnt, idx-below t, idx-reads.Post, steps·open-body-reads.Asked, steps·open-body-reads.Learnt, inner-below t, inner-reads.Post, steps·end-body-reads.Asked, steps·end-body-reads.Learnt)
+cs t = (cst·open-from-reads.Asked, cst·open-from-reads.Learnt, idx-below t, idx-reads.Post, stages·open-body-reads.Asked, stages·open-body-reads.Learnt, inner-below t, inner-reads.Post, steps·end-body-reads.Asked, steps·end-body-reads.Learnt)
 
 module _ (t : ℕ) where
   returns : lts.Need-returns (cs t) (strct-at t) strct-reads.Post

@@ -7,8 +7,8 @@ use lib.ListN.{length}
 use Rattle.definition.specs.Prog.{memory}
 use Rattle.definition.specs.Expressions.{tupleTurn}
 use Rattle.reading.specs.Does.{then, gives, when-true, when-false, Turns, first-turn, next-turn, last-turn, no-turn-left, refused-turn}
-use Rattle.readers.specs.Same.{regrouped}
-use Rattle.readers.specs.Segments.{more-same}
+use Rattle.answers.specs.Same.{regrouped}
+use Rattle.answers.specs.Segments.{more-same}
 use borrow.Author.Needs.{needs}
 use native.Mathlib.Omega.{arith}
 use Rattle.readers.proofs.+alts+arm+arms+atom+bare+bind+block+call+comp+cond+elems+elif+expr+field+fork+func+idx+init+inits+inner+key+lit+mem+meth+must+par+paren+pars+pick+post+put+rep+ret+seq+sig+stmt+strct+test+tuple+ty+tys.Lts-tuple as lts

@@ -2,8 +2,8 @@
 use Prim.Native.Nat.{ℕ}
 use mathlib.Core.Path.{_∙_}
 use Rattle.reading.specs.Does.{then}
-use Rattle.readers.specs.Same.{regrouped}
-use Rattle.readers.specs.Segments.{types-same}
+use Rattle.answers.specs.Same.{regrouped}
+use Rattle.answers.specs.Segments.{types-same}
 use borrow.Author.Needs.{needs}
 use native.Mathlib.Omega.{arith}
 use Rattle.readers.proofs.+alts+arm+arms+atom+bare+bind+block+call+comp+cond+elems+elif+expr+field+fork+func+idx+init+inits+inner+key+lit+mem+meth+must+par+paren+pars+pick+post+put+rep+ret+seq+sig+stmt+strct+test+tuple+ty+tys.Lts-tys as lts
@@ -11,11 +11,11 @@ use Rattle.readers.proofs.tys.Reads as tys-reads
 use Rattle.cst.proofs.open_from.Reads as cst·open-from-reads
 use Rattle.stream.proofs.expect.Reads as stream·expect-reads
 use Rattle.readers.proofs.elems.Reads as elems-reads
-use Rattle.steps.proofs.end_node.Reads as steps·end-node-reads
+use Rattle.stages.proofs.end_node.Reads as stages·end-node-reads
 use Rattle.readers.proofs.+alts+arm+arms+atom+bare+bind+block+call+comp+cond+elems+elif+expr+field+fork+func+idx+init+inits+inner+key+lit+mem+meth+must+par+paren+pars+pick+post+put+rep+ret+seq+sig+stmt+strct+test+tuple+ty+tys.Proof.Measures.{tys-at, elems-below}
 
 abbrev cs : ℕ → lts.Claims
-cs t = (cst·open-from-reads.Asked, cst·open-from-reads.Learnt, stream·expect-reads.Asked, stream·expect-reads.Learnt, elems-below t, elems-reads.Post, steps·end-node-reads.Asked, steps·end-node-reads.Learnt)
+cs t = (cst·open-from-reads.Asked, cst·open-from-reads.Learnt, stream·expect-reads.Asked, stream·expect-reads.Learnt, elems-below t, elems-reads.Post, stages·end-node-reads.Asked, stages·end-node-reads.Learnt)
 
 module _ (t : ℕ) where
   returns : lts.Need-returns (cs t) (tys-at t) tys-reads.Post

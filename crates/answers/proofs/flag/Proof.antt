@@ -1,0 +1,16 @@
+-- `flag` meets its contract.
+use Rattle.answers.proofs.flag.Statement.{statement}
+use Rattle.answers.proofs.flag.Tie as tie
+
+returns : tie.Need-returns
+returns c = rw (c .if1 .taken)
+
+returns-2 : tie.Need-returns-2
+returns-2 c = rw (c .if1 .left)
+
+pub flag-spec : {M : Type 1} → statement M
+flag-spec =
+    tie.close
+    (tie.spec
+    returns
+    returns-2)

@@ -1,0 +1,71 @@
+-- `emit_missing` meets its contract.
+use mathlib.Core.Path.{_∙_}
+use mathlib.Core.Path.{refl, sym}
+use Rattle.reading.specs.Does.{then, gives, when-true, when-false}
+use Rattle.stream.specs.Commands.{position-is, before-is}
+use borrow.Author.Needs.{needs}
+use Rattle.recovery.proofs.emit_missing.Statement.{statement}
+use Rattle.recovery.proofs.emit_missing.Tie as tie
+
+peek-requires : tie.Need-peek-requires
+peek-requires c κs = search needs
+
+is-missing-requires : tie.Need-is-missing-requires
+is-missing-requires c κs = search needs
+
+before-start-requires : tie.Need-before-start-requires
+before-start-requires c κs = search needs
+
+token-start-requires : tie.Need-token-start-requires
+token-start-requires c κs = search needs
+
+emit-and-mark-requires : tie.Need-emit-and-mark-requires
+emit-and-mark-requires c κs = search needs
+
+same-length : tie.Need-same-length
+same-length c = c .before .before .before .before .before .before .emit-and-mark .kept .1 .1 .1 .1 .0 ∙ c .before .before .before .before .before .before .before .before .before .before .before .before .before .before .before .before .before .before .before .before .before .before .before .peek .kept .1 .1 .1 .1 .0
+
+same-length-2 : tie.Need-same-length-2
+same-length-2 c = c .before .before .before .before .before .before .emit-and-mark .kept .1 .1 .1 .1 .1 .0 ∙ c .before .before .before .before .before .before .before .before .before .before .before .before .before .before .before .before .before .before .before .before .before .before .before .peek .kept .1 .1 .1 .1 .1 .0
+
+same-length-3 : tie.Need-same-length-3
+same-length-3 c = c .before .before .before .before .before .before .emit-and-mark .kept .1 .1 .1 .1 .1 .1 .0 ∙ c .before .before .before .before .before .before .before .before .before .before .before .before .before .before .before .before .before .before .before .before .before .before .before .peek .kept .1 .1 .1 .1 .1 .1 .0
+
+returns : tie.Need-returns
+returns c =
+    then (c .before .before .before .before .before .before .before .before .before .before .before .before .before .before .before .before .before .before .before .before .before .before .before .peek .ensures) (then (position-is refl) (when-true (sym (c .before .before .before .before .before .before .before .before .before .before .before .before .before .is-missing .ensures) ∙ c .before .before .before .before .before .before .before .before .before .before .before .before .if1 .taken)
+    (then (before-is (c .before .before .before .before .before .before .before .before .before .before .before .before-start .ensures) (c .before .before .before .before .before .before .before .token-start .ensures)) (c .before .before .before .before .before .before .emit-and-mark .ensures))))
+
+emit-unexpected-requires : tie.Need-emit-unexpected-requires
+emit-unexpected-requires c κs = search needs
+
+same-length-4 : tie.Need-same-length-4
+same-length-4 c = c .before .before .before .before .before .before .emit-unexpected .kept .1 .1 .1 .1 .0 ∙ c .before .before .before .before .before .before .before .before .before .before .before .before .before .before .before .before .before .before .before .before .before .peek .kept .1 .1 .1 .1 .0
+
+same-length-5 : tie.Need-same-length-5
+same-length-5 c = c .before .before .before .before .before .before .emit-unexpected .kept .1 .1 .1 .1 .1 .0 ∙ c .before .before .before .before .before .before .before .before .before .before .before .before .before .before .before .before .before .before .before .before .before .peek .kept .1 .1 .1 .1 .1 .0
+
+same-length-6 : tie.Need-same-length-6
+same-length-6 c = c .before .before .before .before .before .before .emit-unexpected .kept .1 .1 .1 .1 .1 .1 .0 ∙ c .before .before .before .before .before .before .before .before .before .before .before .before .before .before .before .before .before .before .before .before .before .peek .kept .1 .1 .1 .1 .1 .1 .0
+
+returns-2 : tie.Need-returns-2
+returns-2 c = then (c .before .before .before .before .before .before .before .before .before .before .before .before .before .before .before .before .before .before .before .before .before .peek .ensures) (then (position-is refl) (when-false (sym (c .before .before .before .before .before .before .before .before .before .before .before .is-missing .ensures) ∙ c .before .before .before .before .before .before .before .before .before .before .if1 .left) (c .before .before .before .before .before .before .emit-unexpected .ensures)))
+
+pub emit-missing-spec : {M : Type 1} → statement M
+emit-missing-spec =
+    tie.close
+    (tie.spec
+    peek-requires
+    is-missing-requires
+    before-start-requires
+    token-start-requires
+    emit-and-mark-requires
+    same-length
+    same-length-2
+    same-length-3
+    returns
+    emit-unexpected-requires
+    same-length-4
+    same-length-5
+    same-length-6
+    returns-2)

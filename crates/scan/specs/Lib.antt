@@ -1,0 +1,6 @@
+-- To believe: Bytes and Lexer, the definition of a text's tokens. All others are laws about it.
+pub mod Bytes
+pub mod Lexer
+pub mod Laws
+pub mod Longest
+pub mod Fits

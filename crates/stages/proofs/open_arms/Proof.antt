@@ -1,0 +1,35 @@
+-- `open_arms` meets its contract.
+use mathlib.Core.Path.{_∙_}
+use Rattle.reading.specs.Does.{then, gives}
+use borrow.Author.Needs.{needs}
+use Rattle.stages.proofs.open_arms.Statement.{statement}
+use Rattle.stages.proofs.open_arms.Tie as tie
+
+push-child-requires : tie.Need-push-child-requires
+push-child-requires c κs = search needs
+
+open-list-requires : tie.Need-open-list-requires
+open-list-requires c κs = search needs
+
+same-length : tie.Need-same-length
+same-length c = c .before .before .before .before .before .before .before .before .before .open-list .kept .1 .1 .1 .1 .0 ∙ c .before .before .before .before .before .before .before .before .before .before .before .before .before .before .before .before .before .before .before .push-child .kept .1 .1 .1 .1 .0
+
+same-length-2 : tie.Need-same-length-2
+same-length-2 c = c .before .before .before .before .before .before .before .before .before .open-list .kept .1 .1 .1 .1 .1 .0 ∙ c .before .before .before .before .before .before .before .before .before .before .before .before .before .before .before .before .before .before .before .push-child .kept .1 .1 .1 .1 .1 .0
+
+same-length-3 : tie.Need-same-length-3
+same-length-3 c = c .before .before .before .before .before .before .before .before .before .open-list .kept .1 .1 .1 .1 .1 .1 .0 ∙ c .before .before .before .before .before .before .before .before .before .before .before .before .before .before .before .before .before .before .before .push-child .kept .1 .1 .1 .1 .1 .1 .0
+
+returns : tie.Need-returns
+returns c = then (c .before .before .before .before .before .before .before .before .before .before .before .before .before .before .before .before .before .before .before .push-child .ensures) (then (c .before .before .before .before .before .before .before .before .before .open-list .ensures) gives)
+
+pub open-arms-spec : {M : Type 1} → statement M
+open-arms-spec =
+    tie.close
+    (tie.spec
+    push-child-requires
+    open-list-requires
+    same-length
+    same-length-2
+    same-length-3
+    returns)
