@@ -4,7 +4,7 @@ ghost use mathlib.Core.List.{[], _∷_};
 ghost use Prim.Native.Nat.{_≤_};
 ghost use lib.ListN.{length};
 ghost use Rattle.words.specs.Answer.{done};
-ghost use Rattle.lexer.specs.Lex.{lexed, lexedWords};
+ghost use Rattle.lexer.specs.Lex.{answer, lexed, lexedWords};
 ghost use Rattle.reader.specs.Read.{afterLexing, reads};
 ghost use Rattle.reader.specs.Demand.{Agrees};
 ghost use Rattle.plank.specs.Coded.{coded};
@@ -61,7 +61,14 @@ pub fn read(
     }
 }
 
-// `lexer::lex`, its answer as one number: the number of tokens, or a refusal's number times 2 to the 32nd and its place.
+// A text to its tokens alone, as words; the rest of the slice is 0, and all of it on refusal.
+pub fn lex(text: &[u8], tokens: &mut [u32]) -> Lexed
+    ensures { λ r. ⌜ (answer r ≡ lexed (now (text .entry)) (length (now (tokens .entry)))) × (now (tokens .exit) ≡ lexedWords (now (text .entry)) (length (now (tokens .entry)))) ⌝ }
+{
+    lexer::lex(text, tokens)
+}
+
+// `lex`, its answer as one number: the number of tokens, or a refusal's number times 2 to the 32nd and its place.
 #[no_mangle]
 pub extern "C" fn plank_lex(text: &[u8], tokens: &mut [u32]) -> u64
     ensures { λ r. ⌜ (r ≡ coded (lexed (now (text .entry)) (length (now (tokens .entry))))) × (now (tokens .exit) ≡ lexedWords (now (text .entry)) (length (now (tokens .entry)))) ⌝ }
