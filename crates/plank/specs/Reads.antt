@@ -23,7 +23,8 @@ use Rattle.parser.specs.declared.Parsed.the-variants as Parsing
 use Rattle.parser.specs.Answers as Parser
 use Rattle.parser.specs.Answers.{zeroed}
 use Rattle.reader.specs.Read.{Read, Lent, after, afterLexing, reads}
-use Rattle.reader.specs.Demand.{Agrees, agrees-of}
+use Rattle.reader.specs.Demand.{Agrees}
+use Rattle.reader.specs.Joined.{agrees-of}
 use Rattle.plank.specs.declared.Outcome.{Outcome}
 use Rattle.plank.specs.declared.Outcome.the-variants.{Counts, Refused}
 

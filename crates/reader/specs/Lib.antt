@@ -3,3 +3,4 @@ pub mod Cases
 pub mod Kinds
 pub mod Rows
 pub mod Demand
+pub mod Joined
