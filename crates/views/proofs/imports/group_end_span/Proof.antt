@@ -1,0 +1,47 @@
+-- `group_end_span` meets its contract.
+use mathlib.Core.Path.{_∙_}
+use Rattle.views.specs.Laws.{then-is, then-none, then-refused}
+use borrow.Author.Needs.{needs}
+use Rattle.views.proofs.imports.group_end_span.Statement.{statement}
+use Rattle.views.proofs.imports.group_end_span.Tie as tie
+
+import-group-path-segment-count-requires : tie.Need-import-group-path-segment-count-requires
+import-group-path-segment-count-requires c κs = search needs
+
+enum-told : tie.Need-enum-told
+enum-told c = search needs
+
+enum-known-place : tie.Need-enum-known-place
+enum-known-place c = search needs
+
+enum-known-count : tie.Need-enum-known-count
+enum-known-count c = search needs
+
+less-requires : tie.Need-less-requires
+less-requires c κs = search needs
+
+group-segment-span-requires : tie.Need-group-segment-span-requires
+group-segment-span-requires c κs = search needs
+
+returns : tie.Need-returns
+returns c = then-none _ _ (rw (c .enum-told .given .1) at (c .before .before .import-group-path-segment-count .ensures))
+
+returns-2 : tie.Need-returns-2
+returns-2 c = then-refused _ _ _ _ (rw (c .before .place .given .1) at (c .before .before .before .import-group-path-segment-count .ensures))
+
+returns-3 : tie.Need-returns-3
+returns-3 c = (rw (c .before .less .ensures) at (c .group-segment-span .ensures)) ∙ then-is _ _ _ (rw (c .before .before .before .count .given .1) at (c .before .before .before .before .before .import-group-path-segment-count .ensures))
+
+pub group-end-span-spec : {M : Type 1} → statement M
+group-end-span-spec =
+    tie.close
+    (tie.spec
+    import-group-path-segment-count-requires
+    enum-told
+    enum-known-place
+    enum-known-count
+    less-requires
+    group-segment-span-requires
+    returns
+    returns-2
+    returns-3)

@@ -1,0 +1,43 @@
+-- `import_path_segment_count` meets its contract.
+use mathlib.Core.Path.{_∙_}
+use Rattle.views.specs.Laws.{then-is, then-none, then-refused}
+use borrow.Author.Needs.{needs}
+use Rattle.views.proofs.imports.import_path_segment_count.Statement.{statement}
+use Rattle.views.proofs.imports.import_path_segment_count.Tie as tie
+
+import-path-requires : tie.Need-import-path-requires
+import-path-requires c κs = search needs
+
+enum-told : tie.Need-enum-told
+enum-told c = search needs
+
+enum-known-place : tie.Need-enum-known-place
+enum-known-place c = search needs
+
+enum-known-path : tie.Need-enum-known-path
+enum-known-path c = search needs
+
+count-of-requires : tie.Need-count-of-requires
+count-of-requires c κs = search needs
+
+returns : tie.Need-returns
+returns c = then-none _ _ (rw (c .enum-told .given .1) at (c .before .before .import-path .ensures))
+
+returns-2 : tie.Need-returns-2
+returns-2 c = then-refused _ _ _ _ (rw (c .before .place .given .1) at (c .before .before .before .import-path .ensures))
+
+returns-3 : tie.Need-returns-3
+returns-3 c = c .count-of .ensures ∙ then-is _ _ _ (rw (c .before .before .path .given .1) at (c .before .before .before .before .import-path .ensures))
+
+pub import-path-segment-count-spec : {M : Type 1} → statement M
+import-path-segment-count-spec =
+    tie.close
+    (tie.spec
+    import-path-requires
+    enum-told
+    enum-known-place
+    enum-known-path
+    count-of-requires
+    returns
+    returns-2
+    returns-3)
