@@ -1,6 +1,6 @@
 -- `type_of` meets its contract.
 use mathlib.Core.Path.{_∙_}
-use Rattle.views.specs.Laws.{then-is, then-none, then-refused, flag-unset, flag-set}
+use Rattle.looking.specs.Laws.{then-is, then-none, then-refused, flag-unset, flag-set}
 use borrow.Author.Needs.{needs}
 use Rattle.views.proofs.type_of.Statement.{statement}
 use Rattle.views.proofs.type_of.Tie as tie
