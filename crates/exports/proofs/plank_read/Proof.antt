@@ -1,9 +1,9 @@
 -- `plank_read` meets its contract: the number, the words and the counts are those of the definition's answer.
 use mathlib.Core.Path.{refl}
-use Rattle.harness.specs.Harness.{told}
+use Rattle.exports.specs.Told.{told}
 use borrow.Author.Needs.{needs}
-use Rattle.harness.proofs.plank_read.Statement.{statement}
-use Rattle.harness.proofs.plank_read.Tie as tie
+use Rattle.exports.proofs.plank_read.Statement.{statement}
+use Rattle.exports.proofs.plank_read.Tie as tie
 
 read-requires : tie.Need-read-requires
 read-requires c κs = search needs
