@@ -2,8 +2,8 @@
 use mathlib.Core.Path.{sym}
 use lib.Seq.{length-take-le}
 use borrow.Author.Needs.{needs}
-use Rattle.limits.proofs.brackets.Statement.{statement}
-use Rattle.limits.proofs.brackets.Tie as tie
+use Rattle.cases.proofs.limits.brackets.Statement.{statement}
+use Rattle.cases.proofs.limits.brackets.Tie as tie
 
 slice-aggregate-put : tie.Need-slice-aggregate-put
 slice-aggregate-put c = search needs

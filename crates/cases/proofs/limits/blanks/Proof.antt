@@ -2,8 +2,8 @@
 use mathlib.Core.Path.{sym}
 use lib.Seq.{length-take-le}
 use borrow.Author.Needs.{needs}
-use Rattle.limits.proofs.blanks.Statement.{statement}
-use Rattle.limits.proofs.blanks.Tie as tie
+use Rattle.cases.proofs.limits.blanks.Statement.{statement}
+use Rattle.cases.proofs.limits.blanks.Tie as tie
 
 returns : tie.Need-returns
 returns c = search needs

@@ -1,7 +1,5 @@
-// Reads the cases that document 01 names, the limits and P1 to P12, and says which come out otherwise.
+// The texts that document 01 names at the limits of length and depth.
 ghost use Prim.Native.Nat.{_≤_};
-
-mod table;
 
 use libc::STDOUT_FILENO;
 use plank::Outcome;
@@ -161,31 +159,10 @@ fn limits() -> u32
         )
 }
 
-fn first_six() -> u32
-    ensures { λ r. ⌜ r ≤ 6 ⌝ }
-{
-    told(b"P1", table::p1())
-        + told(b"P2", table::p2())
-        + told(b"P3", table::p3())
-        + told(b"P4", table::p4())
-        + told(b"P5", table::p5())
-        + told(b"P6", table::p6())
-}
-
-fn last_six() -> u32
-    ensures { λ r. ⌜ r ≤ 6 ⌝ }
-{
-    told(b"P7", table::p7())
-        + told(b"P8", table::p8())
-        + told(b"P9", table::p9())
-        + told(b"P10", table::p10())
-        + told(b"P11", table::p11())
-        + told(b"P12", table::p12())
-}
-
-fn main() {
-    let differences = limits() + first_six() + last_six();
-    io::write_all(STDOUT_FILENO, b"16 cases, ");
+// Reads the texts at the limits, and says which come out otherwise.
+pub(crate) fn read_limits() {
+    let differences = limits();
+    io::write_all(STDOUT_FILENO, b"4 limits, ");
     io::print_decimal(STDOUT_FILENO, differences as u64);
     io::write_all(STDOUT_FILENO, b" differences\n");
 }

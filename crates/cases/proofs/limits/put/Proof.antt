@@ -3,8 +3,8 @@ use mathlib.Core.Path.{_≡_, refl}
 use Prim.Native.Nat.{_-_}
 use lib.ListN.{length, length-set}
 use borrow.Author.Needs.{needs}
-use Rattle.limits.proofs.put.Statement.{statement}
-use Rattle.limits.proofs.put.Tie as tie
+use Rattle.cases.proofs.limits.put.Statement.{statement}
+use Rattle.cases.proofs.limits.put.Tie as tie
 
 abbrev Inv-loop : tie.InvT-loop
 Inv-loop text₀ at part i₀ end₀ text i end = length text ≡ length text₀

@@ -2,8 +2,8 @@
 use Prim.Native.Nat.{_-_}
 use lib.ListN.{length}
 use borrow.Author.Needs.{needs}
-use Rattle.limits.proofs.is_same.Statement.{statement}
-use Rattle.limits.proofs.is_same.Tie as tie
+use Rattle.cases.proofs.limits.is_same.Statement.{statement}
+use Rattle.cases.proofs.limits.is_same.Tie as tie
 
 abbrev Inv-loop : tie.InvT-loop
 Inv-loop words expected i₀ i = Unit {0}

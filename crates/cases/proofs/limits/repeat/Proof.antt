@@ -2,8 +2,8 @@
 use mathlib.Core.Path.{_≡_, refl}
 use lib.ListN.{length, length-set}
 use borrow.Author.Needs.{needs}
-use Rattle.limits.proofs.repeat.Statement.{statement}
-use Rattle.limits.proofs.repeat.Tie as tie
+use Rattle.cases.proofs.limits.repeat.Statement.{statement}
+use Rattle.cases.proofs.limits.repeat.Tie as tie
 
 abbrev Inv-loop : tie.InvT-loop
 Inv-loop text₀ at byte times left₀ end₀ text left end = length text ≡ length text₀
