@@ -57,3 +57,10 @@ impl<'a> NodeView<'a> {
         any::ident(self.nodes, self.n)
     }
 }
+
+// The child of a node, for callers that have plain words.
+pub fn child_at(nodes: &[u32], n: u32, i: u32) -> View
+    ensures { λ r. ⌜ answer r ≡ child i (now (nodes .entry)) n ⌝ }
+{
+    NodeView::new(nodes, n).child(i)
+}
