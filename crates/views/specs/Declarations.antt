@@ -1,31 +1,11 @@
--- Declarations: a file and what it declares (ast/mod.rs), and any node (`NodeView` of cst/mod.rs).
+-- Declarations: a file and what it declares (ast/mod.rs).
 use mathlib.Core.List.{List}
 use Prim.Native.Nat.{ℕ}
 use Rattle.words.specs.Flag
 use Rattle.words.specs.Node
-use Rattle.views.specs.View.{Seen, countOf, flagOf, kindOf, nameOf, newOf, nthOf, payloadOf, spanChild, spanOf}
-use Rattle.views.specs.Expr.{typeOf, valueOf}
-use Rattle.views.specs.declared.TokenSpan.{TokenSpan}
-
--- `NodeView::kind`
-abbrev pub kind : List ℕ → ℕ → Seen ℕ
-kind ns n = kindOf Node.File Node.Error ns n
-
--- `NodeView::span`, `Expr::span`, `Statement::span`
-abbrev pub span : List ℕ → ℕ → Seen TokenSpan
-span ns n = spanOf Node.File Node.Error ns n
-
--- `NodeView::child`
-abbrev pub child : ℕ → List ℕ → ℕ → Seen ℕ
-child i ns n = nthOf Node.File Node.Error Node.File Node.Error i ns n
-
--- `NodeView::children`, counted
-abbrev pub childCount : List ℕ → ℕ → Seen ℕ
-childCount ns n = countOf Node.File Node.Error Node.File Node.Error ns n
-
--- `NodeView::ident`
-abbrev pub ident : List ℕ → ℕ → Seen ℕ
-ident ns n = payloadOf Node.Identifier Node.Identifier ns n
+use Rattle.looking.specs.View.{Seen, countOf, flagOf, nameOf, newOf, nthOf, spanChild, spanOf}
+use Rattle.expr.specs.Expr.{typeOf, valueOf}
+use Rattle.looking.specs.declared.TokenSpan.{TokenSpan}
 
 -- `File::new`
 abbrev pub file : List ℕ → ℕ → Seen ℕ

@@ -4,8 +4,8 @@ use mathlib.Core.List.{List, [], _∷_}
 use Prim.Native.Nat.{ℕ}
 use Rattle.words.specs.Refusal
 use Rattle.words.specs.Words.{high, low}
-use Rattle.views.specs.View.{Seen, is, none, refused, andThen, look, sound, of, nth, counted, peel}
-use Rattle.views.specs.Expr.{asked, whole}
+use Rattle.looking.specs.View.{Seen, is, none, refused, andThen, look, sound, of, nth, counted}
+use Rattle.expr.specs.Expr.{peel, asked, whole}
 use Rattle.views.specs.Declarations.{fileDef, fileDefCount, constDeclName, constDeclType, constDeclAssign}
 
 -- head, first token, end token, next sibling, first child

@@ -5,9 +5,8 @@ use Prim.Native.Nat.{ℕ, _-_}
 use lib.Dec.{eqb}
 use Rattle.words.specs.Flag
 use Rattle.words.specs.Node
-use Rattle.views.specs.View.{Seen, is, andThen, of, turns, nth, counted, newOf, nthOf, countOf, childOf, flagOf, kindOf, spanOf, spanChild}
-use Rattle.views.specs.Expr.{orElse}
-use Rattle.views.specs.declared.TokenSpan.{TokenSpan}
+use Rattle.looking.specs.View.{Seen, is, andThen, orElse, of, turns, nth, counted, newOf, nthOf, countOf, childOf, flagOf, kindOf, spanOf, spanChild}
+use Rattle.looking.specs.declared.TokenSpan.{TokenSpan}
 
 -- `Import::try_new`, its `path_node`
 abbrev pub importPath : List ℕ → ℕ → Seen ℕ

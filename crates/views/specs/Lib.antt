@@ -1,9 +1,4 @@
 pub mod Declarations
 pub mod Example
-pub mod Expr
-pub mod Expressions
-pub mod Functions
 pub mod Imports
-pub mod Laws
 pub mod Statements
-pub mod View

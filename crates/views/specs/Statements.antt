@@ -5,9 +5,9 @@ use Prim.Native.Nat.{ℕ, _+_}
 use lib.Dec.{eqb}
 use Rattle.words.specs.Flag
 use Rattle.words.specs.Node
-use Rattle.views.specs.View.{Seen, is, andThen, look, kept, childOf, flagOf, innerCount, innerOf, kindOf, nameOf, newChild, newOf, spanChild, spanOf}
-use Rattle.views.specs.Expr.{expr, exprOf, typeOf, valueOf}
-use Rattle.views.specs.declared.TokenSpan.{TokenSpan}
+use Rattle.looking.specs.View.{Seen, is, andThen, look, kept, childOf, flagOf, innerCount, innerOf, kindOf, nameOf, newChild, newOf, spanChild, spanOf}
+use Rattle.expr.specs.Expr.{expr, exprOf, typeOf, valueOf}
+use Rattle.looking.specs.declared.TokenSpan.{TokenSpan}
 
 -- `BlockExpr::new`
 abbrev pub block : List ℕ → ℕ → Seen ℕ

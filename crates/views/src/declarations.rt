@@ -1,66 +1,21 @@
-// Declarations: a file and what it declares (ast/mod.rs), and any node (`NodeView` of cst/mod.rs).
+// Declarations: a file and what it declares (ast/mod.rs).
 ghost use mathlib.Core.Path.{_≡_};
-ghost use Rattle.views.specs.View.{answer, counts, spans};
-ghost use Rattle.views.specs.Declarations.{kind, span, child, childCount, ident, file, fileDef, fileDefCount, initBlock, runBlock, constDeclName, constDeclNameSpan, constDeclType, constDeclAssign, constDeclSpan, importAsDeclName, importGroupPublic, importGroupItem, importGroupItemCount, importGroupItemName, importGroupItemNameSpan, importGroupItemAlias, importGroupItemSpan};
-use crate::Count;
-use crate::Spanned;
-use crate::View;
-use crate::count_of;
-use crate::flag_of;
-use crate::kind_of;
-use crate::name_of;
-use crate::new_of;
-use crate::nth_of;
-use crate::payload_of;
-use crate::span_child;
-use crate::span_of;
-use crate::type_of;
-use crate::value_of;
+ghost use Rattle.looking.specs.View.{answer, counts, spans};
+ghost use Rattle.views.specs.Declarations.{file, fileDef, fileDefCount, initBlock, runBlock, constDeclName, constDeclNameSpan, constDeclType, constDeclAssign, constDeclSpan, importAsDeclName, importGroupPublic, importGroupItem, importGroupItemCount, importGroupItemName, importGroupItemNameSpan, importGroupItemAlias, importGroupItemSpan};
+use expr::type_of;
+use expr::value_of;
+use looking::Count;
+use looking::Spanned;
+use looking::View;
+use looking::count_of;
+use looking::flag_of;
+use looking::name_of;
+use looking::new_of;
+use looking::nth_of;
+use looking::span_child;
+use looking::span_of;
 use words::flag;
 use words::node;
-
-// `NodeView::kind`.
-pub fn kind(nodes: &[u32], n: u32) -> View
-    ensures { λ r. ⌜ answer r ≡ kind (now (nodes .entry)) n ⌝ }
-{
-    kind_of(nodes, n, node::FILE, node::ERROR)
-}
-
-// `NodeView::span`, `Expr::span`, `Statement::span`.
-pub fn span(nodes: &[u32], n: u32) -> Spanned
-    ensures { λ r. ⌜ spans r ≡ span (now (nodes .entry)) n ⌝ }
-{
-    span_of(nodes, n, node::FILE, node::ERROR)
-}
-
-// `NodeView::child`.
-pub fn child(nodes: &[u32], n: u32, i: u32) -> View
-    ensures { λ r. ⌜ answer r ≡ child i (now (nodes .entry)) n ⌝ }
-{
-    nth_of(
-        nodes,
-        n,
-        node::FILE,
-        node::ERROR,
-        node::FILE,
-        node::ERROR,
-        i as u64,
-    )
-}
-
-// `NodeView::children`, counted.
-pub fn child_count(nodes: &[u32], n: u32) -> Count
-    ensures { λ r. ⌜ counts r ≡ childCount (now (nodes .entry)) n ⌝ }
-{
-    count_of(nodes, n, node::FILE, node::ERROR, node::FILE, node::ERROR)
-}
-
-// `NodeView::ident`.
-pub fn ident(nodes: &[u32], n: u32) -> View
-    ensures { λ r. ⌜ answer r ≡ ident (now (nodes .entry)) n ⌝ }
-{
-    payload_of(nodes, n, node::IDENTIFIER, node::IDENTIFIER)
-}
 
 // `File::new`.
 pub fn file(nodes: &[u32], n: u32) -> View

@@ -1,6 +1,6 @@
 -- `file_path_span` meets its contract.
 use mathlib.Core.Path.{_∙_}
-use Rattle.views.specs.Laws.{then-is, then-none, then-refused, flag-unset, flag-set}
+use Rattle.looking.specs.Laws.{then-is, then-none, then-refused, flag-unset, flag-set}
 use borrow.Author.Needs.{needs}
 use Rattle.views.proofs.imports.file_path_span.Statement.{statement}
 use Rattle.views.proofs.imports.file_path_span.Tie as tie

@@ -1,6 +1,6 @@
 -- `group_segment` meets its contract.
 use mathlib.Core.Path.{_∙_}
-use Rattle.views.specs.Laws.{then-is, then-none, then-refused}
+use Rattle.looking.specs.Laws.{then-is, then-none, then-refused}
 use borrow.Author.Needs.{needs}
 use Rattle.views.proofs.imports.group_segment.Statement.{statement}
 use Rattle.views.proofs.imports.group_segment.Tie as tie

@@ -1,6 +1,6 @@
 -- `import_group_path_segment_count` meets its contract.
 use mathlib.Core.Path.{_∙_}
-use Rattle.views.specs.Laws.{then-is, then-none, then-refused}
+use Rattle.looking.specs.Laws.{then-is, then-none, then-refused}
 use borrow.Author.Needs.{needs}
 use Rattle.views.proofs.imports.import_group_path_segment_count.Statement.{statement}
 use Rattle.views.proofs.imports.import_group_path_segment_count.Tie as tie

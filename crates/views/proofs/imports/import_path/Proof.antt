@@ -1,6 +1,6 @@
 -- `import_path` meets its contract.
 use mathlib.Core.Path.{_∙_, ap₂}
-use Rattle.views.specs.Expr.{orElse}
+use Rattle.looking.specs.View.{orElse}
 use borrow.Author.Needs.{needs}
 use Rattle.views.proofs.imports.import_path.Statement.{statement}
 use Rattle.views.proofs.imports.import_path.Tie as tie

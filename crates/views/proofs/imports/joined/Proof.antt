@@ -1,5 +1,5 @@
 -- `joined` meets its contract.
-use Rattle.views.specs.View.{andThen}
+use Rattle.looking.specs.View.{andThen}
 use borrow.Author.Needs.{needs}
 use Rattle.views.proofs.imports.joined.Statement.{statement}
 use Rattle.views.proofs.imports.joined.Tie as tie

@@ -1,5 +1,5 @@
 -- `or_else` meets its contract.
-use Rattle.views.specs.Expr.{orElse}
+use Rattle.looking.specs.View.{orElse}
 use borrow.Author.Needs.{needs}
 use Rattle.views.proofs.imports.or_else.Statement.{statement}
 use Rattle.views.proofs.imports.or_else.Tie as tie

@@ -1,6 +1,6 @@
 -- `segment_span` meets its contract.
 use mathlib.Core.Path.{_∙_}
-use Rattle.views.specs.Laws.{then-is, then-none, then-refused}
+use Rattle.looking.specs.Laws.{then-is, then-none, then-refused}
 use borrow.Author.Needs.{needs}
 use Rattle.views.proofs.imports.segment_span.Statement.{statement}
 use Rattle.views.proofs.imports.segment_span.Tie as tie

@@ -1,6 +1,6 @@
 -- `let_stmt` meets its contract.
 use mathlib.Core.Path.{_∙_}
-use Rattle.views.specs.Laws.{then-is, then-none, then-refused}
+use Rattle.looking.specs.Laws.{then-is, then-none, then-refused}
 use borrow.Author.Needs.{needs}
 use Rattle.views.proofs.statements.let_stmt.Statement.{statement}
 use Rattle.views.proofs.statements.let_stmt.Tie as tie

@@ -1,7 +1,7 @@
 -- `let_stmt_whole` meets its contract.
 use mathlib.Core.Path.{_∙_, ap}
-use Rattle.views.specs.View.{kept}
-use Rattle.views.specs.Laws.{then-is, then-none, then-refused}
+use Rattle.looking.specs.View.{kept}
+use Rattle.looking.specs.Laws.{then-is, then-none, then-refused}
 use borrow.Author.Needs.{needs}
 use Rattle.views.proofs.statements.let_stmt_whole.Statement.{statement}
 use Rattle.views.proofs.statements.let_stmt_whole.Tie as tie

@@ -1,6 +1,6 @@
 -- `statement` meets its contract.
 use mathlib.Core.Path.{_∙_}
-use Rattle.views.specs.Laws.{then-is, then-refused}
+use Rattle.looking.specs.Laws.{then-is, then-refused}
 use borrow.Author.Needs.{needs}
 use Rattle.views.proofs.statements.statement.Statement.{statement}
 use Rattle.views.proofs.statements.statement.Tie as tie

@@ -1,6 +1,6 @@
 -- `while_stmt` meets its contract.
 use mathlib.Core.Path.{_∙_, ap}
-use Rattle.views.specs.View.{kept}
+use Rattle.looking.specs.View.{kept}
 use borrow.Author.Needs.{needs}
 use Rattle.views.proofs.statements.while_stmt.Statement.{statement}
 use Rattle.views.proofs.statements.while_stmt.Tie as tie

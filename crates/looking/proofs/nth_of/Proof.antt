@@ -1,0 +1,43 @@
+-- `nth_of` meets its contract.
+use mathlib.Core.Path.{_∙_}
+use Rattle.looking.specs.Laws.{then-is, then-none, then-refused}
+use borrow.Author.Needs.{needs}
+use Rattle.looking.proofs.nth_of.Statement.{statement}
+use Rattle.looking.proofs.nth_of.Tie as tie
+
+of-requires : tie.Need-of-requires
+of-requires c κs = search needs
+
+enum-told : tie.Need-enum-told
+enum-told c = search needs
+
+enum-known-place : tie.Need-enum-known-place
+enum-known-place c = search needs
+
+enum-known-node : tie.Need-enum-known-node
+enum-known-node c = search needs
+
+nth-requires : tie.Need-nth-requires
+nth-requires c κs = search needs
+
+returns : tie.Need-returns
+returns c = then-none _ _ (rw (c .enum-told .given .1) at (c .before .before .of .ensures))
+
+returns-2 : tie.Need-returns-2
+returns-2 c = then-refused _ _ _ _ (rw (c .before .place .given .1) at (c .before .before .before .of .ensures))
+
+returns-3 : tie.Need-returns-3
+returns-3 c = c .nth .ensures ∙ then-is _ _ _ (rw (c .before .before .node .given .1) at (c .before .before .before .before .of .ensures))
+
+pub nth-of-spec : {M : Type 1} → statement M
+nth-of-spec =
+    tie.close
+    (tie.spec
+    of-requires
+    enum-told
+    enum-known-place
+    enum-known-node
+    nth-requires
+    returns
+    returns-2
+    returns-3)
