@@ -20,7 +20,7 @@ use Rattle.expr.specs.Expr
 use Rattle.viewed.specs.Numbered.{Label, Place, Row, place, from, label, kind, value, saying, payload, children, after, wanted, wantedFrom, ith, peeled, peeledFirst}
 use Rattle.viewed.specs.Query.{Sort, node, number, Query, OnWords, OnTree, seen, ofKind, tokensOf, told, span-of, asWords, answer}
 use Rattle.viewed.specs.Query as Query
-use Rattle.viewed.specs.Held.{Stands, Heads, stands, nobody, somebody, said-payload}
+use Rattle.viewed.specs.Stands.{Stands, Heads, stands, nobody, somebody, said-payload}
 
 module _ (text tokens values ns : List ℕ) where
   abbrev words : Place → Fields

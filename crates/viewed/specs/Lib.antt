@@ -3,6 +3,7 @@ pub mod Query
 pub mod Viewed
 pub mod Questions
 pub mod Table
-pub mod Held
+pub mod Example
+pub mod Stands
 pub mod Answers
 pub mod Proved

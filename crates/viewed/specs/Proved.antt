@@ -15,12 +15,12 @@ use Rattle.chart.specs.Kinds.{derived-known}
 use Rattle.tree.specs.Stored.{stored}
 use Rattle.tree.specs.Linked.{Reached, Ordered}
 use Rattle.tree.specs.Linked as Linked
-use Rattle.reader.specs.Read.{Read, Lent, reads}
+use Rattle.reader.specs.Read.{Lent, reads}
 use Rattle.reader.specs.Demand.{Derived}
 use Rattle.reader.specs.Joined.{agreed}
 use Rattle.looking.specs.View.{nodeAt, turns}
 use Rattle.viewed.specs.Numbered.{Label, Place, Row, place, from, bare, Within, itself, below, beside, label}
-use Rattle.viewed.specs.Held.{Stands, Heads, nobody, somebody, one-place, file-held}
+use Rattle.viewed.specs.Stands.{Stands, Heads, nobody, somebody, one-place, file-held}
 use Rattle.viewed.specs.Answers.{Held, held, is-answer, answers}
 use Rattle.viewed.specs.Viewed.{Viewed, Views}
 
@@ -76,6 +76,3 @@ reads-viewed text lent tokens nodes values e =
     let a = agreed text lent e in
     let (t, d) = a .exactly .0 refl in
     (t, d, viewed text (take tokens (reads text lent .tokens)) (take values (reads text lent .values)) (reads text lent .nodes) nodes t d (a .tree t d) (a .ordered t d))
-
-pub viewed-of : (text : List ℕ) (lent : Lent) {r : Read} → r ≡ reads text lent → Views text r
-viewed-of text lent e = rw e (reads-viewed text lent)

@@ -1,10 +1,11 @@
 -- Each accessor is a question: beside it, the one that it asks. So what `Viewed` says of questions it says of every accessor.
-use mathlib.Core.Path.{_≡_, refl, ap}
+use mathlib.Core.Path.{_≡_, refl, sym, _∙_, ap}
 use mathlib.Core.List.{List, [], _∷_}
 use Prim.Native.Nat.{ℕ, _+_, _-_}
 use lib.Dec.{eqb}
 use Rattle.words.specs.Flag
 use Rattle.words.specs.Node
+use Rattle.chart.specs.Tree.{Trees}
 use Rattle.looking.specs.View
 use Rattle.looking.specs.View.{Seen}
 use Rattle.looking.specs.Any
@@ -14,12 +15,21 @@ use Rattle.expressions.specs.Functions
 use Rattle.views.specs.Declarations
 use Rattle.views.specs.Imports
 use Rattle.views.specs.Statements
-use Rattle.viewed.specs.Query.{Sort, Query, outer, nothing, give, new, kind, payload, span, nthAfter, countAfter, byKind, then, with, else, choose, joined, OnWords, seen, onWords}
+use Rattle.viewed.specs.Numbered.{Place, Within, label}
+use Rattle.viewed.specs.Query.{Sort, Query, outer, nothing, give, new, kind, payload, span, nthAfter, countAfter, byKind, then, with, else, choose, joined, OnWords, seen, onWords, onTree, answer}
+use Rattle.viewed.specs.Viewed.{Viewed}
 use Rattle.viewed.specs.Questions.{nthOf, countOf, childOf, flagOf, ident, nameOf, innerOf, innerCount, newChild, spanChild, payloadChild, structBody, expr, exprOf, typeOf, valueOf, memberExpr, structChild, structChildCount, bound, letStmt, whileStmt, statementOf, importPath, importGlob, segment, segmentCount, firstSpan, endSpan, pathSpan, groupSegment, groupSegmentCount, groupFirstSpan, groupEndSpan}
 
 -- A question, and a function of words and of a node's number that gives the answers to it.
 pub data Entry : Type 0 where
   entry : {s : Sort} (q : Query s) (view : List ℕ → ℕ → Seen (OnWords s)) → (λ (ns : List ℕ) (n : ℕ). onWords ns q n) ≡ view → Entry
+
+-- It gives of a node of the words what the tree says of the node's place.
+abbrev pub Tells : Entry → List ℕ → Place → Type 0
+Tells (entry {s} q view e) ns p = view ns (label p .number) ≡ answer s (onTree q p)
+
+pub tells : {text tokens nodes values : List ℕ} {count : ℕ} {t : Trees} (v : Viewed text tokens nodes values count t) (e : Entry) (p : Place) → Within (v .root) p → Tells e nodes p
+tells {nodes = nodes} v (entry q view e) p w = ap (λ (f : List ℕ → ℕ → Seen _). f nodes (label p .number)) (sym e) ∙ v .views p w q
 
 -- The views by kind, from which accessors are made (`View`, `Expr`): the kinds `first` to `last` and `low` to `high`.
 pub forms : (first last low high k i : ℕ) → List Entry
