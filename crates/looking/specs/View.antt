@@ -58,8 +58,8 @@ andThen none f = none
 andThen (refused number place) f = refused number place
 
 -- What a view finds, or where it finds none another one.
-unfoldable pub orElse : Seen ℕ → Seen ℕ → Seen ℕ
-orElse (is n) s = is n
+unfoldable pub orElse : {A : Type 0} → Seen A → Seen A → Seen A
+orElse (is a) s = is a
 orElse none s = s
 orElse (refused number place) s = refused number place
 
