@@ -2,14 +2,15 @@
 use mathlib.Core.Path.{_≡_, refl}
 use mathlib.Core.Bool.{Bool, true, false, cond}
 use mathlib.Core.List.{List, [], _∷_, reverse, reverse-append}
-use Prim.Native.Nat.{ℕ, suc, _+_, _≤_, _<_, min}
+use Prim.Native.Nat.{ℕ, suc, _+_, _-_, _≤_, _<_, min}
+use native.Mathlib.Nat.{sub-zero}
 use native.Mathlib.Numerals.{add-one}
 use native.Mathlib.Omega.{arith}
-use borrow.Author.Tests.{leb-true, leb-false}
+use borrow.Author.Tests.{leb-true, leb-false, ne-eqb}
 use lib.Dec.{leb}
 use lib.ListN.{length, getD, take, drop, length-reverse, drop-of-length-le}
 use lib.Seq.{take-suc, take-all, take-length, drop-cons, drop-length, length-take-le}
-use Rattle.position.specs.Position.{isNewline, isStart, count, untilNewline, before, positionAfter, positionOf, lineStart, lineEnd, sourceLine}
+use Rattle.position.specs.Position.{isNewline, isStart, count, untilNewline, before, positionAfter, positionOf, lineStart, lineEnd, sourceLine, behind}
 use Rattle.position.specs.declared.Position.{Position}
 
 -- An offset past the text is that of the text's end.
@@ -118,3 +119,24 @@ start-first text = refl
 pub end-last : (text : List ℕ) → lineEnd text (length text) ≡ length text
 unfolding lineEnd untilNewline
 end-last text = rw drop-length (omega (arith, before-length text (length text) (omega arith)))
+
+-- One byte is passed, and with it a newline, if it is one.
+module _ (text : List ℕ) (at n : ℕ) (h : at < length text) where
+  behind-next : 0 < n → behind (drop at text) n ≡ 1 + behind (drop (at + 1) text) (n - cond (isNewline (getD text at 0)) 1 0)
+  unfolding behind
+  behind-next p = rw (drop-cons text at 0 h, add-one, ne-eqb n 0 (λ e. omega arith))
+
+  pub behind-newline : 0 < n → isNewline (getD text at 0) ≡ true → behind (drop at text) n ≡ 1 + behind (drop (at + 1) text) (n - 1)
+  behind-newline p t = rw t at (behind-next p)
+
+  pub behind-other : 0 < n → isNewline (getD text at 0) ≡ false → behind (drop at text) n ≡ 1 + behind (drop (at + 1) text) n
+  behind-other p t = rw (t, sub-zero) at (behind-next p)
+
+pub behind-none : (s : List ℕ) → behind s 0 ≡ 0
+unfolding behind
+behind-none [] = refl
+behind-none (b ∷ s) = refl
+
+pub behind-past : (text : List ℕ) (n : ℕ) → behind (drop (length text) text) n ≡ 0
+unfolding behind
+behind-past text n = rw drop-length

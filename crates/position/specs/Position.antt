@@ -45,3 +45,11 @@ lineEnd text offset = length (before text offset) + length (untilNewline (drop o
 
 unfoldable pub sourceLine : List ℕ → ℕ → Extent
 sourceLine text offset = record { start = lineStart text offset; end = lineEnd text offset }
+
+-- The offset behind so many newlines; the text's end where it has fewer.
+unfoldable pub behind : List ℕ → ℕ → ℕ
+behind [] n = 0
+behind (b ∷ s) n = cond (eqb n 0) 0 (1 + behind s (n - cond (isNewline b) 1 0))
+
+unfoldable pub lineBehind : List ℕ → ℕ → Extent
+lineBehind text newlines = sourceLine text (behind text newlines)

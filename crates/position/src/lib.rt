@@ -2,7 +2,7 @@
 ghost use mathlib.Core.Path.{_≡_};
 ghost use Prim.Native.Nat.{_+_, _^_, _≤_, _<_, min};
 ghost use lib.ListN.{length};
-ghost use Rattle.position.specs.Position.{isStart, positionOf, lineStart, lineEnd, sourceLine};
+ghost use Rattle.position.specs.Position.{isStart, positionOf, lineStart, lineEnd, sourceLine, behind, lineBehind};
 ghost use Rattle.position.specs.Laws.{next};
 
 pub struct Position {
@@ -106,4 +106,29 @@ pub fn source_line(text: &[u8], offset: usize) -> Extent
         start: line_start(text, at),
         end: line_end(text, at),
     }
+}
+
+// Where a text goes on behind so many newlines; its end where it has fewer.
+fn skip_lines(text: &[u8], newlines: usize) -> usize
+    ensures { λ r. ⌜ r ≡ behind (now (text .entry)) newlines ⌝ }
+{
+    let mut lines = newlines;
+    let mut at = 0;
+    while at < text.len() {
+        if lines == 0 {
+            return at;
+        }
+        if text[at] == NEWLINE {
+            lines -= 1;
+        }
+        at += 1;
+    }
+    at
+}
+
+// The line behind so many newlines; the last line where there are fewer.
+pub fn line_behind(text: &[u8], newlines: usize) -> Extent
+    ensures { λ r. ⌜ r ≡ lineBehind (now (text .entry)) newlines ⌝ }
+{
+    source_line(text, skip_lines(text, newlines))
 }
