@@ -239,7 +239,16 @@ pub fn name_of(nodes: &[u32], n: u32, from: u32, to: u32, i: u64) -> View
 }
 
 // Of the k-th child of a node of kind `from` to `to`, the i-th child whose kind is one of `low` to `high`.
-pub fn inner_of(nodes: &[u32], n: u32, from: u32, to: u32, k: u64, low: u32, high: u32, i: u64) -> View
+pub fn inner_of(
+    nodes: &[u32],
+    n: u32,
+    from: u32,
+    to: u32,
+    k: u64,
+    low: u32,
+    high: u32,
+    i: u64,
+) -> View
     ensures { λ r. ⌜ answer r ≡ innerOf from to k low high i (now (nodes .entry)) n ⌝ }
 {
     match nth_of(nodes, n, from, to, 0, words::node::ERROR, k) {
