@@ -1,10 +1,10 @@
 -- `Expr::new` of ast/expr.rs: which node an expression is. Where the Rust makes an `Expr::Error` the answer is none.
 use mathlib.Core.Bool.{Bool, false, cond, _||_}
 use mathlib.Core.List.{List, [], _∷_}
-use Prim.Native.Nat.{ℕ, zero, suc, _-_}
+use Prim.Native.Nat.{ℕ, zero, suc, _+_, _-_}
 use lib.Dec.{eqb}
 use Rattle.words.specs.Node
-use Rattle.looking.specs.View.{Seen, is, none, andThen, orElse, look, turns, kept, newOf, childOf, nameOf, newChild}
+use Rattle.looking.specs.View.{Seen, is, none, andThen, orElse, look, turns, kept, newOf, childOf, nameOf, newChild, flagOf}
 
 -- `Expr::new`, its loop: "ParenExpr nodes are transparently peeled". A first child may be any node, so brackets may stand in a ring:
 -- after as many peels as there are nodes the answer is none.
@@ -57,3 +57,10 @@ expr ns n = andThen (peel (turns ns) ns n) (exprAt ns)
 -- `child(i).map(Expr::new_unwrap)` of a view's node
 abbrev pub exprOf : ℕ → ℕ → ℕ → List ℕ → ℕ → Seen ℕ
 exprOf from to i ns n = andThen (childOf from to i ns n) (expr ns)
+
+-- `ConstDecl::try_new`, `LetStmt::try_new`: after the name "`if typed`" the type, then the value.
+abbrev pub typeOf : ℕ → List ℕ → ℕ → Seen ℕ
+typeOf kind ns n = andThen (flagOf kind kind 1 ns n) (λ typed. cond (eqb typed 0) none (exprOf kind kind 1 ns n))
+
+abbrev pub valueOf : ℕ → List ℕ → ℕ → Seen ℕ
+valueOf kind ns n = andThen (flagOf kind kind 1 ns n) (λ typed. exprOf kind kind (1 + typed) ns n)

@@ -1,10 +1,11 @@
-// Which node an expression is (`Expr::new` of ast/expr.rs).
+// Which node an expression is (`Expr::new` of ast/expr.rs), and the expressions that children are: operands, types, values.
 ghost use mathlib.Core.Path.{_≡_};
 ghost use Prim.Native.Nat.{_<_};
 ghost use Rattle.looking.specs.View.{answer, turns};
-ghost use Rattle.expr.specs.Expr.{peel, structBody, asked, whole, exprAt, expr, exprOf};
+ghost use Rattle.expr.specs.Expr.{peel, structBody, asked, whole, exprAt, expr, exprOf, typeOf, valueOf};
 use looking::Looked;
 use looking::View;
+use looking::flag_of;
 use looking::kept;
 use looking::look;
 use looking::name_of;
@@ -178,5 +179,32 @@ pub fn expr_of(nodes: &[u32], n: u32, from: u32, to: u32, i: u64) -> View
         View::None => View::None,
         View::Refused(place) => View::Refused(place),
         View::Is(c) => expr(nodes, c),
+    }
+}
+
+// The type of a constant or a `let` that has one.
+pub fn type_of(nodes: &[u32], n: u32, kind: u32) -> View
+    ensures { λ r. ⌜ answer r ≡ typeOf kind (now (nodes .entry)) n ⌝ }
+{
+    match flag_of(nodes, n, kind, kind, 1) {
+        View::None => View::None,
+        View::Refused(place) => View::Refused(place),
+        View::Is(typed) => {
+            if typed == 0 {
+                return View::None;
+            }
+            expr_of(nodes, n, kind, kind, 1)
+        }
+    }
+}
+
+// The value of a constant or a `let`, which stands after its type.
+pub fn value_of(nodes: &[u32], n: u32, kind: u32) -> View
+    ensures { λ r. ⌜ answer r ≡ valueOf kind (now (nodes .entry)) n ⌝ }
+{
+    match flag_of(nodes, n, kind, kind, 1) {
+        View::None => View::None,
+        View::Refused(place) => View::Refused(place),
+        View::Is(typed) => expr_of(nodes, n, kind, kind, 1 + (typed as u64)),
     }
 }

@@ -4,7 +4,7 @@ use Prim.Native.Nat.{ℕ}
 use Rattle.words.specs.Flag
 use Rattle.words.specs.Node
 use Rattle.looking.specs.View.{Seen, countOf, flagOf, nameOf, newOf, nthOf, spanChild, spanOf}
-use Rattle.views.specs.Typed.{typeOf, valueOf}
+use Rattle.expr.specs.Expr.{typeOf, valueOf}
 use Rattle.looking.specs.declared.TokenSpan.{TokenSpan}
 
 -- `File::new`

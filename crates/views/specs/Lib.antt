@@ -2,4 +2,3 @@ pub mod Declarations
 pub mod Example
 pub mod Imports
 pub mod Statements
-pub mod Typed

@@ -6,8 +6,7 @@ use lib.Dec.{eqb}
 use Rattle.words.specs.Flag
 use Rattle.words.specs.Node
 use Rattle.looking.specs.View.{Seen, is, andThen, look, kept, childOf, flagOf, innerCount, innerOf, kindOf, nameOf, newChild, newOf, spanChild, spanOf}
-use Rattle.expr.specs.Expr.{expr, exprOf}
-use Rattle.views.specs.Typed.{typeOf, valueOf}
+use Rattle.expr.specs.Expr.{expr, exprOf, typeOf, valueOf}
 use Rattle.looking.specs.declared.TokenSpan.{TokenSpan}
 
 -- `BlockExpr::new`

@@ -2,8 +2,8 @@
 ghost use mathlib.Core.Path.{_≡_};
 ghost use Rattle.looking.specs.View.{answer, counts, spans};
 ghost use Rattle.views.specs.Declarations.{file, fileDef, fileDefCount, initBlock, runBlock, constDeclName, constDeclNameSpan, constDeclType, constDeclAssign, constDeclSpan, importAsDeclName, importGroupPublic, importGroupItem, importGroupItemCount, importGroupItemName, importGroupItemNameSpan, importGroupItemAlias, importGroupItemSpan};
-use crate::type_of;
-use crate::value_of;
+use expr::type_of;
+use expr::value_of;
 use looking::Count;
 use looking::Spanned;
 use looking::View;

@@ -2,8 +2,8 @@
 use mathlib.Core.Path.{_∙_}
 use Rattle.looking.specs.Laws.{then-is, then-none, then-refused, flag-unset, flag-set}
 use borrow.Author.Needs.{needs}
-use Rattle.views.proofs.type_of.Statement.{statement}
-use Rattle.views.proofs.type_of.Tie as tie
+use Rattle.expr.proofs.type_of.Statement.{statement}
+use Rattle.expr.proofs.type_of.Tie as tie
 
 flag-of-requires : tie.Need-flag-of-requires
 flag-of-requires c κs = search needs

@@ -1,7 +1,7 @@
 -- `glob_flags` meets its contract.
 use borrow.Author.Needs.{needs}
-use Rattle.imports.proofs.glob_flags.Statement.{statement}
-use Rattle.imports.proofs.glob_flags.Tie as tie
+use Rattle.answers.proofs.glob_flags.Statement.{statement}
+use Rattle.answers.proofs.glob_flags.Tie as tie
 
 add-result : tie.Need-add-result
 add-result c = search needs
