@@ -1,6 +1,7 @@
 // A view of a node, which keeps the node words it looks at (`NodeView` of cst/mod.rs). Each function takes it apart and asks crate looking.
 ghost use mathlib.Core.Path.{_≡_};
-ghost use Rattle.looking.specs.View.{answer, spans, ident};
+ghost use Rattle.looking.specs.View.{answer, spans, ident, nameOf};
+ghost use Rattle.words.specs.Node;
 ghost use Rattle.looking.specs.Any.{kind, span, child};
 use looking::Spanned;
 use looking::View;
@@ -63,4 +64,22 @@ pub fn child_at(nodes: &[u32], n: u32, i: u32) -> View
     ensures { λ r. ⌜ answer r ≡ child i (now (nodes .entry)) n ⌝ }
 {
     NodeView::new(nodes, n).child(i)
+}
+
+// The name that another node is, by a view that moves there.
+fn ident_at(nodes: &[u32], n: u32, c: u32) -> View
+    ensures { λ r. ⌜ answer r ≡ ident (now (nodes .entry)) c ⌝ }
+{
+    NodeView::new(nodes, n).at(c).ident()
+}
+
+// `child(i).and_then(NodeView::ident)`: a caller with no view of its own, which the borrow checker covers.
+pub fn child_ident(nodes: &[u32], n: u32, i: u32) -> View
+    ensures { λ r. ⌜ answer r ≡ nameOf Node.File Node.Error i (now (nodes .entry)) n ⌝ }
+{
+    match child_at(nodes, n, i) {
+        View::None => View::None,
+        View::Refused(place) => View::Refused(place),
+        View::Is(c) => ident_at(nodes, n, c),
+    }
 }
