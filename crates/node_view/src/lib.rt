@@ -1,8 +1,9 @@
 // A view of a node, which keeps the node words it looks at (`NodeView` of cst/mod.rs). Each function takes it apart and asks crate looking.
 ghost use mathlib.Core.Path.{_≡_};
-ghost use Rattle.looking.specs.View.{answer, spans, ident, nameOf};
+ghost use Rattle.looking.specs.View.{answer, spans, counts, ident, nameOf};
 ghost use Rattle.words.specs.Node;
-ghost use Rattle.looking.specs.Any.{kind, span, child};
+ghost use Rattle.looking.specs.Any.{kind, span, child, childCount};
+use looking::Count;
 use looking::Spanned;
 use looking::View;
 use looking::any;
@@ -49,6 +50,13 @@ impl<'a> NodeView<'a> {
         ensures { λ r. ⌜ answer r ≡ child i (now (self .entry .nodes)) (self .entry .n) ⌝ }
     {
         any::child(self.nodes, self.n, i)
+    }
+
+    // `NodeView::children`, counted.
+    pub fn child_count(self) -> Count
+        ensures { λ r. ⌜ counts r ≡ childCount (now (self .entry .nodes)) (self .entry .n) ⌝ }
+    {
+        any::child_count(self.nodes, self.n)
     }
 
     // `NodeView::ident`.
