@@ -17,7 +17,7 @@ use Rattle.looking.specs.View
 use Rattle.looking.specs.View.{Seen, is, none, andThen, orElse, look, nodeAt, among, noStop, turns}
 use Rattle.looking.specs.Laws.{nth-none, counted-none}
 use Rattle.expr.specs.Expr
-use Rattle.viewed.specs.Numbered.{Label, Place, Row, place, from, label, kind, value, saying, payload, children, after, wanted, wantedFrom, ith, peeled, peeledFirst}
+use Rattle.viewed.specs.Numbered.{Label, Place, Row, place, label, kind, value, saying, payload, children, after, wanted, wantedFrom, ith, peeled, peeledFirst}
 use Rattle.viewed.specs.Query.{Sort, node, number, Query, OnWords, OnTree, seen, ofKind, tokensOf, told, span-of, asWords, answer}
 use Rattle.viewed.specs.Query as Query
 use Rattle.viewed.specs.Stands.{Stands, Heads, stands, nobody, somebody, said-payload}

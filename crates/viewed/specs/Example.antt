@@ -8,7 +8,7 @@ use Rattle.chart.specs.Tree.{flags, name, number}
 use Rattle.looking.specs.View.{Seen, is, none}
 use Rattle.expr.specs.Expr.{asked}
 use Rattle.viewed.specs.Numbered.{Label, Place, place, empty, from, wanted, wantedFrom, ith, peeled, peeledFirst}
-use Rattle.viewed.specs.Query.{Sort, Query, told, onTree, answer}
+use Rattle.viewed.specs.Query.{Query, told, onTree, answer}
 use Rattle.viewed.specs.Query as Query
 use Rattle.viewed.specs.Questions.{nthOf, countOf, nameOf, typeOf, valueOf}
 

@@ -1,6 +1,6 @@
 -- The chart's trees with the number that each node has in the words. So that a view's answer can be compared: a tree may have two alike
 -- parts, and the answer is to be the one, not the other.
-use mathlib.Core.Bool.{cond, _&&_}
+use mathlib.Core.Bool.{cond}
 use mathlib.Core.List.{List, [], _∷_}
 use mathlib.Core.Option.{Option}
 use mathlib.Core.Option as Option

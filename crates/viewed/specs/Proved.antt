@@ -1,12 +1,11 @@
 -- `Viewed` holds of what reading leaves of a text free of reports.
-use mathlib.Core.Path.{_≡_, refl, sym, _∙_, ap}
+use mathlib.Core.Path.{_≡_, refl, sym, _∙_}
 use mathlib.Core.Option as Option
-use mathlib.Core.List.{List, [], _∷_}
-use Prim.Native.Nat.{ℕ, suc, _+_, _*_, _/_, _≤_, _<_}
+use mathlib.Core.List.{List}
+use Prim.Native.Nat.{ℕ, suc, _*_, _≤_}
 use native.Mathlib.Omega.{arith}
-use lib.ListN.{length, getD, drop, take}
+use lib.ListN.{getD, take}
 use lib.Seq.{getD-drop}
-use Rattle.words.specs.Answer.{done}
 use Rattle.words.specs.Words.{nodeWidth}
 use Rattle.definition.specs.Prog.{nextWord, childWord}
 use Rattle.definition.specs.Encodes as Encodes
@@ -18,9 +17,9 @@ use Rattle.tree.specs.Linked as Linked
 use Rattle.reader.specs.Read.{Lent, reads}
 use Rattle.reader.specs.Demand.{Derived}
 use Rattle.reader.specs.Joined.{agreed}
-use Rattle.looking.specs.View.{nodeAt, turns}
-use Rattle.viewed.specs.Numbered.{Label, Place, Row, place, from, bare, Within, itself, below, beside, label}
-use Rattle.viewed.specs.Stands.{Stands, Heads, nobody, somebody, one-place, file-held}
+use Rattle.looking.specs.View.{turns}
+use Rattle.viewed.specs.Numbered.{Place, Row, place, from, Within, itself, below, beside, label}
+use Rattle.viewed.specs.Stands.{Heads, nobody, somebody, one-place, file-held}
 use Rattle.viewed.specs.Answers.{Held, held, is-answer, answers}
 use Rattle.viewed.specs.Viewed.{Viewed, Views}
 

@@ -1,12 +1,11 @@
 -- The questions that accessors ask, put together as `View`, `Expr` and the accessors put views together, under their names.
-use mathlib.Core.List.{[], _∷_}
 use Prim.Native.Nat.{ℕ, _+_, _-_, _/_, _%_}
 use lib.Dec.{eqb}
 use Rattle.words.specs.Flag
 use Rattle.words.specs.Node
 use Rattle.looking.specs.View.{noStop}
 use Rattle.expr.specs.Expr.{asked}
-use Rattle.viewed.specs.Query.{node, number, tokens, Query, it, outer, nothing, give, new, kind, payload, span, nth, count, nthAfter, countAfter, peel, byKind, then, with, both, else, choose, joined}
+use Rattle.viewed.specs.Query.{node, number, tokens, Query, it, outer, nothing, give, new, kind, payload, span, nth, count, peel, byKind, then, with, both, else, choose, joined}
 
 -- ---- `View`
 

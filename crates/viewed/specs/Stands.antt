@@ -5,28 +5,24 @@ use mathlib.Core.Bool.{Bool, true, false, cond}
 use mathlib.Core.Option.{Option}
 use mathlib.Core.Option as Option
 use mathlib.Core.List.{List}
-use Prim.Native.Nat.{ℕ, zero, suc, _+_, _*_, _≤_, _<_}
+use Prim.Native.Nat.{ℕ, zero, suc, _*_, _≤_, _<_}
 use native.Mathlib.Omega.{arith}
 use borrow.Author.Tests.{eqb-true, eqb-false, ltb-true, leb-true}
 use lib.Dec.{eqb, ltb, leb}
-use lib.ListN.{length, getD, drop}
 use lib.Seq.{getD-drop}
 use Rattle.words.specs.Node
 use Rattle.words.specs.Words.{nodeWidth}
 use Rattle.words.specs.declared.node.Node.{Node as Fields}
-use Rattle.definition.specs.Prog.{nextWord, childWord}
+use Rattle.definition.specs.Prog.{nextWord}
 use Rattle.definition.specs.Encodes.{next}
-use Rattle.definition.specs.Encodes as Encodes
 use Rattle.chart.specs.Tree.{Value, flags, name, number, bytes, Trees, node, _▸_}
 use Rattle.chart.specs.Tree as Tree
-use Rattle.chart.specs.Kinds.{Known, nothing, known}
+use Rattle.chart.specs.Kinds.{Known, known}
 use Rattle.tree.specs.Stored.{where-so, isName, valueAt, said, joined, treesFrom, stored}
-use Rattle.tree.specs.Linked.{Reached, root, below, beside, Ordered}
-use Rattle.looking.specs.View.{is, look, nodeAt, turns}
+use Rattle.looking.specs.View.{is, look, nodeAt}
 use Rattle.looking.specs.View as View
 use Rattle.looking.specs.Laws.{looked, last, next-rises}
 use Rattle.viewed.specs.Numbered.{Label, Place, Row, place, empty, from, bare, bareFrom, label, saying}
-use Rattle.viewed.specs.Numbered as Numbered
 
 abbrev labelled : ℕ → Fields → Label
 labelled n w = record { number = n; first = w .first; end = w .end; source = w .payload }
