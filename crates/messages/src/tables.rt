@@ -1,7 +1,7 @@
 // Tables of texts, a text to a line. A text that begins with a blank is written behind its subject.
 
 // What a report says, by `sentence_of`.
-pub const SENTENCES: [u8; 984] = *b"the report is of no known kind
+pub const SENTENCES: [u8; 987] = *b"the report is of no known kind
 this is no token of Plank
  is not expected here
  is missing here
@@ -14,7 +14,7 @@ this import group is empty
 this import group has one name, so it needs no braces
 a string can hold ASCII characters only
 '\\x' must be followed by two hexadecimal digits
- can't stand after a backslash: what can is n r t 0 x \\ or \"
+ can't stand after a backslash: only n, r, t, 0, x, \\ and \" can
  is no hexadecimal digit
 a hex string must have an even number of digits
 a backslash can't be the last character of a string

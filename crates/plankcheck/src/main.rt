@@ -105,6 +105,10 @@ fn check_file(path: &[u8], with_tree: bool) {
 fn take(i: usize, with_tree: bool) -> Argument {
     let mut buffer = io::buffer();
     let n = os::arg(i, &mut buffer);
+    if os::errno() != 0 {
+        os::fail(b"argument");
+        return Argument::File;
+    }
     if check::same(&buffer[..n], b"--tree") {
         return Argument::Tree;
     }

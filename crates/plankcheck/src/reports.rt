@@ -4,7 +4,6 @@ use crate::show;
 use crate::tree;
 use lexer::Lexed;
 use messages::Subject;
-use messages::tables;
 use words::REPORT_WIDTH;
 use words::Report;
 use words::refusal;
@@ -41,7 +40,7 @@ fn character_start(r: Report) -> usize {
 
 fn print_subject(text: &[u8], r: Report) {
     match messages::subject_of(r.kind, r.detail) {
-        Subject::Token(kind) => print::entry(&tables::TOKENS, kind),
+        Subject::Token(kind) => print::token(kind),
         Subject::Character(c) => print_character(text, c, character_start(r), r.end as usize),
         Subject::Nothing => {}
     }
@@ -53,7 +52,7 @@ fn print_report(name: &[u8], text: &[u8], r: Report) {
     print_position(text, r.start as usize);
     print::bytes(b": ");
     print_subject(text, r);
-    print::entry(&tables::SENTENCES, messages::sentence_of(r.kind, r.detail));
+    print::sentence(messages::sentence_of(r.kind, r.detail));
     print::bytes(b"\n");
     show::place(text, r.start as usize, r.end as usize);
 }
@@ -120,6 +119,6 @@ fn print_refusal_place(text: &[u8], tokens: &mut [u32], number: u32, place: u32)
 pub(crate) fn refused(name: &[u8], text: &[u8], tokens: &mut [u32], number: u32, place: u32) {
     print::bytes(name);
     print::bytes(b": refused: ");
-    print::entry(&tables::REFUSALS, number);
+    print::refusal(number);
     print_refusal_place(text, tokens, number, place);
 }

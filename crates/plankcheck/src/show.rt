@@ -46,6 +46,7 @@ fn next_start(text: &[u8], from: usize) -> usize {
 
 // Where the shown part of a line starts.
 fn part_start(text: &[u8], line_start: usize, place: usize) -> usize {
+    // Never so: a place lies in its line.
     if place < line_start {
         return line_start;
     }
@@ -57,6 +58,7 @@ fn part_start(text: &[u8], line_start: usize, place: usize) -> usize {
 
 // Where it ends.
 fn part_end(text: &[u8], start: usize, line_end: usize) -> usize {
+    // Never so.
     if line_end < start {
         return start;
     }
@@ -144,13 +146,23 @@ fn carets(text: &[u8], start: usize, end: usize, place: usize, place_end: usize)
     print_line(&line, n);
 }
 
+// What shows that a line is cut, or keeps the carets below it in their place.
+fn print_if(is_cut: bool, sign: &[u8]) {
+    if is_cut {
+        print::bytes(sign);
+    }
+}
+
 // The line of a place, or as much as is shown of it, with carets under the place.
 pub(crate) fn place(text: &[u8], place: usize, place_end: usize) {
     let line = position::source_line(text, place);
     let start = part_start(text, line.start, place);
     let end = part_end(text, start, line.end);
+    print_if(line.start < start, b"...");
     echo(text, start, end);
+    print_if(end < line.end, b"...");
     print::bytes(b"\n");
+    print_if(line.start < start, b"   ");
     carets(text, start, end, place, place_end);
     print::bytes(b"\n");
 }

@@ -1,4 +1,4 @@
-// The tree as lines: a node's kind, what its payload says, and the script's part where it has no children; children are indented.
+// The tree as lines: a node's kind, its flags, and how it is spelled; children are indented.
 use crate::print;
 use crate::show;
 use words::NODE_WIDTH;
@@ -79,6 +79,18 @@ fn print_indent(depth: usize) {
     print::bytes(&blanks);
 }
 
+// Up to where a node's tokens are shown: all those of a name, a literal, an operator or an error, and the operator of a UnaryExpr.
+fn shown_end(n: Node) -> u32 {
+    let kind = n.kind;
+    match kind {
+        node::IDENTIFIER | node::BUILTIN_NAME | node::SELF_TYPE | node::PARAM_ANY_TYPE => n.end,
+        node::BOOL_LITERAL | node::NUM_LITERAL | node::STRING_LITERAL => n.end,
+        node::OPERATOR | node::ERROR => n.end,
+        node::UNARY_EXPR => { if n.first < n.end { n.first + 1 } else { n.end } }
+        _ => n.first,
+    }
+}
+
 // The script's part of some tokens.
 fn print_tokens(text: &[u8], tokens: &[u32], first: u32, end: u32) {
     if first < end {
@@ -89,11 +101,9 @@ fn print_tokens(text: &[u8], tokens: &[u32], first: u32, end: u32) {
 
 fn print_node(text: &[u8], tokens: &[u32], n: Node, depth: usize) {
     print_indent(depth);
-    print::entry(&messages::tables::NODES, n.kind);
+    print::node(n.kind);
     print_flags(n.kind, n.payload);
-    if n.child == 0 {
-        print_tokens(text, tokens, n.first, n.end);
-    }
+    print_tokens(text, tokens, n.first, shown_end(n));
     print::bytes(b"\n");
 }
 

@@ -8,7 +8,7 @@ use native.Mathlib.Numerals.{add-one}
 use native.Mathlib.Omega.{arith}
 use borrow.Author.Tests.{leb-true, leb-false, ne-eqb}
 use lib.Dec.{leb}
-use lib.ListN.{length, getD, take, drop, length-reverse, drop-of-length-le}
+use lib.ListN.{length, getD, take, drop, length-reverse, length-drop, drop-of-length-le}
 use lib.Seq.{take-suc, take-all, take-length, drop-cons, drop-length, length-take-le}
 use Rattle.position.specs.Position.{isNewline, isStart, count, untilNewline, before, positionAfter, positionOf, lineStart, lineEnd, sourceLine, behind}
 use Rattle.position.specs.declared.Position.{Position}
@@ -119,6 +119,11 @@ start-first text = refl
 pub end-last : (text : List ℕ) → lineEnd text (length text) ≡ length text
 unfolding lineEnd untilNewline
 end-last text = rw drop-length (omega (arith, before-length text (length text) (omega arith)))
+
+-- A line holds its offset and lies within the text, so that it can be lent as a part of it.
+pub line-holds : (text : List ℕ) (at : ℕ) → at ≤ length text → (lineStart text at ≤ at) × (at ≤ lineEnd text at) × (lineEnd text at ≤ length text)
+unfolding lineStart lineEnd
+line-holds text at h = omega (arith, before-length text at h, until-most (drop at text), length-drop at text)
 
 -- One byte is passed, and with it a newline, if it is one.
 module _ (text : List ℕ) (at n : ℕ) (h : at < length text) where
