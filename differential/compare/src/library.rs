@@ -242,10 +242,6 @@ impl NodeWords {
         // Safety: both pointers and lengths are those of live slices, the second one unshared.
         let packed =
             unsafe { plank_view_span(which, nodes, length, n, slice.as_mut_ptr(), slice.len()) };
-        Spanned {
-            seen: Seen::unpacked(packed),
-            stayed_inside: span.is_kept(),
-            words: span.back(),
-        }
+        Spanned { seen: Seen::unpacked(packed), stayed_inside: span.is_kept(), words: span.back() }
     }
 }

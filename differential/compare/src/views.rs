@@ -1,6 +1,7 @@
 //! The comparison of views: every accessor on every node of the reference's trees.
 
 mod altered;
+mod changed;
 mod check;
 mod fault;
 mod tally;
@@ -13,6 +14,7 @@ use crate::{
     run::{Run, in_a_thread},
 };
 use altered::first_difference_altered;
+use changed::changed_trees;
 use check::{Difference, first_difference};
 use generate::ParseTexts;
 use oracle::views::Tree;
@@ -46,6 +48,11 @@ fn difference(text: &[u8], fault: Option<Fault>, tally: &mut Tally) -> Option<Di
     let mut tree = Tree::read(str::from_utf8(text).ok()?)?;
     tally.trees += 1;
     let difference = first_difference(&mut tree, fault, tally);
-    let altered = first_difference_altered(&tree, fault, tally);
-    difference.or(altered)
+    let mut all = vec![difference];
+    for mut changed in changed_trees(&tree) {
+        tally.changed_trees += 1;
+        all.push(first_difference(&mut changed, fault, tally));
+    }
+    all.push(first_difference_altered(&tree, fault, tally));
+    all.into_iter().flatten().next()
 }

@@ -1,5 +1,6 @@
 //! What the reference's views tell of every node of a tree, as the numbers of document 01.
 
+mod changes;
 mod node;
 mod parents;
 mod table;
@@ -8,6 +9,7 @@ mod table;
 #[path = "../../../crates/accessors/src/number.rt"]
 mod number;
 
+pub use changes::Change;
 pub use node::{By, Node, Told};
 pub use table::{LISTS, List, NUMBERS, One, SPANS};
 
@@ -19,9 +21,10 @@ use crate::{
 use parents::Parents;
 use plank_core::Idx;
 use plank_session::{BytesId, StrId};
-use std::collections::HashMap;
+use std::{collections::HashMap, ops::RangeInclusive};
 
 /// A tree of the reference, and its words.
+#[derive(Clone)]
 pub struct Tree {
     /// With the hand-made parents behind the tree's own nodes.
     cst: ConcreteSyntaxTree,
@@ -30,9 +33,12 @@ pub struct Tree {
     names: HashMap<StrId, u32>,
     numbers: HashMap<NumLitId, u32>,
     strings: HashMap<BytesId, u32>,
-    /// The nodes without children, by kind and tokens.
+    /// Literals, names and `Self`, by kind and tokens.
     leaves: HashMap<[u32; 3], u32>,
 }
+
+/// Of BoolLiteral to BuiltinName the reference's views have no node.
+const LEAF_KINDS: RangeInclusive<u32> = 32..=37;
 
 impl Tree {
     /// None where the reference panics or the text is too deep.
@@ -69,7 +75,10 @@ impl Tree {
 
     /// Which payload stands for which name and value, and where the leaves are.
     fn note_payloads(&mut self) {
-        for (number, (node, words)) in self.cst.nodes.iter().zip(self.words.nodes.chunks(5)).enumerate() {
+        self.leaves.clear();
+        for (number, (node, words)) in
+            self.cst.nodes.iter().zip(self.words.nodes.chunks(5)).enumerate()
+        {
             let payload = words[0] & 0x3ff_ffff;
             let before = match node.kind {
                 NodeKind::Identifier { ident }
@@ -80,7 +89,7 @@ impl Tree {
                 _ => None,
             };
             assert!(before.is_none_or(|before| before == payload), "two payloads for one thing");
-            if words[4] == 0 {
+            if LEAF_KINDS.contains(&(words[0] >> 26)) {
                 self.leaves.insert([words[0] >> 26, words[1], words[2]], number as u32);
             }
         }

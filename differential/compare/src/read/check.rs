@@ -25,11 +25,7 @@ enum Expected {
     Start(String),
 }
 
-pub fn first_difference(
-    text: &str,
-    fault: Option<Fault>,
-    tally: &mut Tally,
-) -> Option<Difference> {
+pub fn first_difference(text: &str, fault: Option<Fault>, tally: &mut Tally) -> Option<Difference> {
     let mut run = oracle::run(text);
     tally.add_text(&run);
     if let Some(fault) = fault {
@@ -130,7 +126,10 @@ impl fmt::Display for Difference {
     fn fmt(&self, f: &mut fmt::Formatter<'_>) -> fmt::Result {
         let Lengths { nodes, values, reports } = self.lent.rest;
         let tokens = self.lent.tokens;
-        writeln!(f, "  lent {tokens} token, {nodes} node, {values} value and {reports} report words")?;
+        writeln!(
+            f,
+            "  lent {tokens} token, {nodes} node, {values} value and {reports} report words"
+        )?;
         match &self.expected {
             Expected::Start(wanted) => {
                 writeln!(f, "  expected {wanted}\n  found    {}", Shown(&self.found))

@@ -2,7 +2,7 @@
 
 use crate::{
     library::{NodeWords, Seen},
-    views::{Fault, check::Difference, tally::Tally},
+    views::{Fault, changed::rng_of, check::Difference, tally::Tally},
 };
 use generate::Rng;
 use oracle::views::{LISTS, NUMBERS, SPANS, Tree};
@@ -21,7 +21,7 @@ pub fn first_difference_altered(
     let words = &tree.words().nodes;
     let mut first = None;
     for copy in 0..COPIES {
-        let mut rng = Rng::new(copy + 1 + words.iter().fold(0, |sum, word| sum * 31 + u64::from(*word) % 97) % 100_003);
+        let mut rng = rng_of(tree, copy);
         let altered = alter(&mut rng, words);
         let difference = difference_in(&altered, fault, tally, &mut rng);
         first = first.or(difference);
@@ -65,11 +65,14 @@ fn difference_in(
         tally.add_altered(&expected, is_same);
         if !is_same && first.is_none() {
             let (expected, found) = (format!("{expected:?}"), format!("{found:?} in {words:?}"));
-            first = Some(Difference { accessor: format!("{name}, altered"), node, expected, found });
+            first =
+                Some(Difference { accessor: format!("{name}, altered"), node, expected, found });
         }
     };
-    let number = |name: &str| NUMBERS.iter().find(|one| one.name == name).expect("an accessor").number;
-    let (kind, ident, children, span) = (number("KIND"), number("IDENT"), &LISTS[0], SPANS[0].number);
+    let number =
+        |name: &str| NUMBERS.iter().find(|one| one.name == name).expect("an accessor").number;
+    let (kind, ident, children, span) =
+        (number("KIND"), number("IDENT"), &LISTS[0], SPANS[0].number);
     for node in some.chain(drawn) {
         let found = library.view(kind, node, 0);
         compare("KIND", node, seen(look(words, node).map(|node| Some(node.kind()))), found);
@@ -87,7 +90,12 @@ fn difference_in(
         // Where any accessor refuses, it is at a node that a look refuses.
         for which in (0..224).filter(|which| which % 8 == node % 8) {
             if let Seen::Refused(place) = library.view(which, node, node % 4) {
-                compare("any", node, seen(look(words, place).map(|_| Some(place))), Seen::Refused(place));
+                compare(
+                    "any",
+                    node,
+                    seen(look(words, place).map(|_| Some(place))),
+                    Seen::Refused(place),
+                );
             }
         }
     }

@@ -22,7 +22,11 @@ impl fmt::Display for Difference {
     }
 }
 
-pub fn first_difference(tree: &mut Tree, fault: Option<Fault>, tally: &mut Tally) -> Option<Difference> {
+pub fn first_difference(
+    tree: &mut Tree,
+    fault: Option<Fault>,
+    tally: &mut Tally,
+) -> Option<Difference> {
     let words = NodeWords::new(&tree.words().nodes);
     let mut check = Check { words: &words, fault, tally, first: None };
     for number in 0..tree.count() {
@@ -93,8 +97,10 @@ impl Check<'_> {
     /// Numbers that name no accessor tell none, and so do those of another sort of answer; of nodes
     /// that aren't there every accessor is refused. Some numbers are tried on each tree.
     fn nowhere(&mut self, count: u32) {
-        let of_numbers = |which: &u32| NUMBERS.iter().any(|one| one.number == *which)
-            || LISTS.iter().any(|list| list.number == *which);
+        let of_numbers = |which: &u32| {
+            NUMBERS.iter().any(|one| one.number == *which)
+                || LISTS.iter().any(|list| list.number == *which)
+        };
         let of_spans = |which: &u32| SPANS.iter().any(|one| one.number == *which);
         let of_counts = |which: &u32| LISTS.iter().any(|list| list.count == *which);
         let some = (0..300).filter(|which| which % 16 == count % 16);
@@ -122,7 +128,13 @@ impl Check<'_> {
         }
     }
 
-    fn keep<A: PartialEq + fmt::Debug>(&mut self, accessor: &str, node: u32, expected: &A, found: &A) {
+    fn keep<A: PartialEq + fmt::Debug>(
+        &mut self,
+        accessor: &str,
+        node: u32,
+        expected: &A,
+        found: &A,
+    ) {
         if expected != found && self.first.is_none() {
             self.first = Some(Difference {
                 accessor: accessor.to_string(),

@@ -7,6 +7,7 @@ use std::{collections::BTreeMap, fmt, process::ExitCode};
 #[derive(Default)]
 pub struct Tally {
     pub trees: usize,
+    pub changed_trees: usize,
     accessors: BTreeMap<&'static str, Answers>,
     /// Of words that were altered: things, none, refusals.
     altered: [usize; 3],
@@ -69,8 +70,11 @@ impl Tally {
 
 impl fmt::Display for Tally {
     fn fmt(&self, f: &mut fmt::Formatter<'_>) -> fmt::Result {
-        writeln!(f, "trees: {}", self.trees)?;
-        writeln!(f, "answers by accessor (told, none, none of another kind; where the reference has no view):")?;
+        writeln!(f, "trees: {}, and {} changed ones", self.trees, self.changed_trees)?;
+        writeln!(
+            f,
+            "answers by accessor (told, none, none of another kind; where the reference has no view):"
+        )?;
         for (name, Answers { told, none, other_kind, no_view }) in &self.accessors {
             writeln!(f, "  {name}: {told}, {none}, {other_kind}; {no_view}")?;
         }

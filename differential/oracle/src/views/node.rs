@@ -3,9 +3,9 @@
 use crate::{
     ast::{
         AssignStmt, BinaryExpr, BlockExpr, CallExpr, ConstDecl, ElseIfBranch, Expr, FieldAssign,
-        FieldDef, File, FnDef, IfExpr, Import, ImportGroup, ImportGroupItemView, InitBlock, LetStmt,
-        MatchArm, MatchExpr, MemberExpr, MethodDef, Param, ReturnStmt, RunBlock, Statement,
-        StructDef, StructLit, TopLevelDef, TupleLit, TupleType, UnaryExpr, WhileStmt,
+        FieldDef, File, FnDef, IfExpr, Import, ImportGroup, ImportGroupItemView, InitBlock,
+        LetStmt, MatchArm, MatchExpr, MemberExpr, MethodDef, Param, ReturnStmt, RunBlock,
+        Statement, StructDef, StructLit, TopLevelDef, TupleLit, TupleType, UnaryExpr, WhileStmt,
     },
     cst::{NodeKind, NodeView},
     lexer::TokenSpan,
@@ -266,7 +266,9 @@ impl<'t> Node<'t> {
             Expr::FnDef(found) => number(found.node()),
             Expr::Block(found) | Expr::ComptimeBlock(found) => number(found.node()),
             Expr::BoolLiteral { value, span } => self.leaf(32, Some(u32::from(value)), span),
-            Expr::NumLiteral { id, span } => self.leaf(33, self.tree.numbers.get(&id).copied(), span),
+            Expr::NumLiteral { id, span } => {
+                self.leaf(33, self.tree.numbers.get(&id).copied(), span)
+            }
             Expr::StringLiteral { value, span } => {
                 self.leaf(34, self.tree.strings.get(&value).copied(), span)
             }
@@ -277,13 +279,14 @@ impl<'t> Node<'t> {
         })
     }
 
-    /// The node without children that has this kind, payload and tokens: the reference's view of it
-    /// has no node.
+    /// The node that has this kind, payload and tokens: the reference's view of it has no node.
     fn leaf(&self, kind: u32, payload: Option<u32>, span: TokenSpan) -> u32 {
         let [start, end] = tokens(span);
         let found = self.tree.leaves.get(&[kind, start, end]).copied();
         let head = payload.map(|payload| kind << 26 | payload);
-        found.filter(|leaf| Some(self.tree.words.nodes[5 * *leaf as usize]) == head).unwrap_or(NOWHERE)
+        found
+            .filter(|leaf| Some(self.tree.words.nodes[5 * *leaf as usize]) == head)
+            .unwrap_or(NOWHERE)
     }
 
     pub fn literal_payload(&self, expr: Expr<'t>) -> Option<u32> {

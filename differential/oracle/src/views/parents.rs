@@ -9,6 +9,7 @@ use crate::{
 use plank_core::{Idx, Span};
 use plank_session::StrId;
 
+#[derive(Clone)]
 pub struct Parents {
     file: NodeIdx,
     group_file: NodeIdx,
@@ -43,7 +44,8 @@ impl Parents {
         let parts = [made.node(NodeKind::SelfType, &[]), arms];
         let selection = made.node(NodeKind::Match, &parts);
         let parameters = made.node(NodeKind::ParamList, &[]);
-        let parts = [parameters, made.node(NodeKind::SelfType, &[]), made.node(NodeKind::Block, &[])];
+        let parts =
+            [parameters, made.node(NodeKind::SelfType, &[]), made.node(NodeKind::Block, &[])];
         let function = made.node(NodeKind::FnDef { eager: false }, &parts);
         Parents {
             file,

@@ -2,8 +2,8 @@
 
 use crate::{
     ast::{
-        ElseIfBranch, Expr, FieldAssign, FieldDef, File, Import, ImportSuffix, InitBlock, MatchArmKind,
-        MethodDef, Param, ParamType, RunBlock, Statement, TopLevelDef,
+        ElseIfBranch, Expr, FieldAssign, FieldDef, File, Import, ImportSuffix, InitBlock,
+        MatchArmKind, MethodDef, Param, ParamType, RunBlock, Statement, TopLevelDef,
     },
     cst::{NodeKind, NodeView},
     lexer::TokenSpan,
@@ -165,7 +165,9 @@ pub const NUMBERS: &[One<u32>] = &[
         n.field_assign().told(|f| n.expr(f.value()), || n.child_expr(1))
     }),
     // Branches.
-    one!(IF_EXPR_CONDITION, |n| n.conditional().told(|i| n.expr(i.condition()), || n.child_expr(0))),
+    one!(IF_EXPR_CONDITION, |n| n
+        .conditional()
+        .told(|i| n.expr(i.condition()), || n.child_expr(0))),
     one!(IF_EXPR_BODY, |n| n.conditional().told(|i| block(|| i.body().node()), || None)),
     one!(IF_EXPR_ELSE_BODY, |n| {
         n.conditional().told(|i| unless_panic(|| i.else_body())?.map(|b| at(b.node())), || None)
@@ -197,10 +199,12 @@ pub const SPANS: &[One<[u32; 2]>] = &[
         n.const_decl().told(|c| Some(tokens(c.name_span())), || n.child_name_span(0))
     }),
     one!(IMPORT_FIRST_PATH_SEGMENT_SPAN, |n| {
-        n.import().told(|i| Some(tokens(i.first_path_segment_span())), || first_name(import_path(n)?))
+        n.import()
+            .told(|i| Some(tokens(i.first_path_segment_span())), || first_name(import_path(n)?))
     }),
     one!(IMPORT_LAST_PATH_SEGMENT_SPAN, |n| {
-        n.import().told(|i| Some(tokens(i.last_path_segment_span())), || last_name(import_path(n)?, 1))
+        n.import()
+            .told(|i| Some(tokens(i.last_path_segment_span())), || last_name(import_path(n)?, 1))
     }),
     one!(IMPORT_FILE_PATH_SPAN, |n| {
         n.import().told(|i| Some(tokens(i.file_path_span())), || file_path(n))
@@ -236,9 +240,7 @@ pub const SPANS: &[One<[u32; 2]>] = &[
         let child = || child_any_type(n).map(|(_, span)| tokens(span));
         n.param().told(|p| any_type(&p).map(|(_, span)| tokens(span)), child)
     }),
-    one!(BINARY_EXPR_OP_SPAN, |n| {
-        n.binary().told(|b| Some(tokens(b.op_span())), || None)
-    }),
+    one!(BINARY_EXPR_OP_SPAN, |n| { n.binary().told(|b| Some(tokens(b.op_span())), || None) }),
     one!(FIELD_DEF_NAME_SPAN, |n| {
         n.field_def().told(|f| Some(tokens(f.name_span())), || n.child_name_span(0))
     }),
@@ -252,28 +254,37 @@ pub const SPANS: &[One<[u32; 2]>] = &[
 ];
 
 pub const LISTS: &[List] = &[
-    list!(CHILD, CHILD_COUNT, |n| any(Some(n.view.children().map(|child| Some(at(child))).collect()))),
+    list!(CHILD, CHILD_COUNT, |n| any(Some(
+        n.view.children().map(|child| Some(at(child))).collect()
+    ))),
     list!(FILE_DEF, FILE_DEF_COUNT, |n| of_kind(File::new(n.view).map(|file| file_defs(n, &file)))),
     list!(IMPORT_PATH_SEGMENT, IMPORT_PATH_SEGMENT_COUNT, |n| {
-        let path = import_path(n);
-        n.import().told(|i| segments(n, path?, |buf| i.collect_path_segments(buf)), || names(path?))
+        let path = import_path(n).map(idents);
+        let children = path.clone();
+        n.import().told(
+            |i| Some(segments(n, path?, |names| i.collect_path_segments(names))),
+            || Some(numbers(children?)),
+        )
     }),
     list!(IMPORT_GROUP_PATH_SEGMENT, IMPORT_GROUP_PATH_SEGMENT_COUNT, |n| {
-        let collect = |buf: &mut _, group: crate::ast::ImportGroup<'_>| group.collect_path_segments(buf);
-        n.import_group().told(|g| segments(n, n.view, |buf| collect(buf, g)), || names_before_items(n))
+        n.import_group().told(
+            |g| Some(segments(n, idents_before_items(n), |names| g.collect_path_segments(names))),
+            || Some(numbers(idents_before_items(n))),
+        )
     }),
     list!(IMPORT_GROUP_ITEM, IMPORT_GROUP_ITEM_COUNT, |n| {
         let is_item = |child: &NodeView<'_>| child.kind() == NodeKind::ImportGroupItem;
         let children = || n.view.children().filter(is_item);
         n.import_group().told(
             |g| Some(items(n, children(), g.items(), |item, child| item.span() == child.span())),
-            || Some(children().map(|child| Some(at(child))).collect()),
+            || Some(numbers(children())),
         )
     }),
     list!(BLOCK_STATEMENT, BLOCK_STATEMENT_COUNT, |n| {
         n.block().always(|b| {
             let children = n.child(0)?.children();
-            let is_same = |item: Statement<'_>, child: NodeView<'_>| is_statement_of(n, item, child);
+            let is_same =
+                |item: Statement<'_>, child: NodeView<'_>| is_statement_of(n, item, child);
             Some(items(n, children, b.statements(), is_same))
         })
     }),
@@ -327,7 +338,10 @@ fn child_span(n: &Node<'_>, i: u32) -> Option<[u32; 2]> {
 // Constants and lets.
 
 fn is_typed(n: &Node<'_>) -> bool {
-    matches!(n.view.kind(), NodeKind::ConstDecl { typed: true } | NodeKind::LetStmt { typed: true, .. })
+    matches!(
+        n.view.kind(),
+        NodeKind::ConstDecl { typed: true } | NodeKind::LetStmt { typed: true, .. }
+    )
 }
 
 fn child_type(n: &Node<'_>) -> Option<u32> {
@@ -396,25 +410,24 @@ fn idents<'t>(path: NodeView<'t>) -> Vec<NodeView<'t>> {
     path.children().filter(|child| child.ident().is_some()).collect()
 }
 
-fn names(path: NodeView<'_>) -> Option<Vec<Option<u32>>> {
-    Some(idents(path).into_iter().map(|child| Some(at(child))).collect())
-}
-
-fn names_before_items(n: &Node<'_>) -> Option<Vec<Option<u32>>> {
+fn idents_before_items<'t>(n: &Node<'t>) -> Vec<NodeView<'t>> {
     let before = n.view.children().take_while(|child| child.kind() != NodeKind::ImportGroupItem);
-    Some(before.filter(|child| child.ident().is_some()).map(|child| Some(at(child))).collect())
+    before.filter(|child| child.ident().is_some()).collect()
 }
 
-/// The reference collects names; they must be those of the path's first children that are names.
+fn numbers<'t>(nodes: impl IntoIterator<Item = NodeView<'t>>) -> Vec<Option<u32>> {
+    nodes.into_iter().map(|node| Some(at(node))).collect()
+}
+
+/// The reference collects names; they must be those of these children.
 fn segments<'t>(
     n: &Node<'t>,
-    path: NodeView<'t>,
+    children: Vec<NodeView<'t>>,
     collect: impl FnOnce(&mut Vec<StrId>),
-) -> Option<Vec<Option<u32>>> {
-    let mut collected = Vec::new();
-    collect(&mut collected);
-    let children = idents(path).into_iter();
-    Some(items(n, children, collected.iter().copied(), |name, child| child.ident() == Some(name)))
+) -> Vec<Option<u32>> {
+    let mut names = Vec::new();
+    collect(&mut names);
+    items(n, children, names, |name, child| child.ident() == Some(name))
 }
 
 fn first_name(path: NodeView<'_>) -> Option<[u32; 2]> {
