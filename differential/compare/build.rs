@@ -1,19 +1,21 @@
-//! Links the static library under test.
+//! Links the static libraries under test.
 
 use std::{env, path::PathBuf};
 
 fn main() {
     println!("cargo::rerun-if-env-changed=PLANK_LIB");
     let folder = env::var_os("PLANK_LIB").map_or_else(default_folder, PathBuf::from);
-    let archive = folder.join("libharness.a");
-    assert!(
-        archive.exists(),
-        "{} is not there; `rt staticlib harness` writes it, PLANK_LIB names its folder",
-        archive.display()
-    );
-    println!("cargo::rerun-if-changed={}", archive.display());
     println!("cargo::rustc-link-search=native={}", folder.display());
-    println!("cargo::rustc-link-lib=static=harness");
+    for library in ["exports", "view_exports"] {
+        let archive = folder.join(format!("lib{library}.a"));
+        assert!(
+            archive.exists(),
+            "{} is not there; `rt staticlib {library}` writes it, PLANK_LIB names its folder",
+            archive.display()
+        );
+        println!("cargo::rerun-if-changed={}", archive.display());
+        println!("cargo::rustc-link-lib=static={library}");
+    }
 }
 
 fn default_folder() -> PathBuf {

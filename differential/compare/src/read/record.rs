@@ -6,7 +6,7 @@
 //! and report words are lent, and the refusal's number and place; 0 and 0 where it is done.
 
 use crate::{
-    parse::{corners::CORNERS, features::features, lengths::lengths},
+    read::{corners::CORNERS, features::features, lengths::lengths},
     record::{number, save},
 };
 use generate::ParseTexts;
@@ -63,6 +63,11 @@ fn deep_texts() -> impl Iterator<Item = String> {
     let inner = ["(", "f(", "-a", "a+b", "{", "{}", "tuple{", "if a{", "comptime {"];
     let blocks = ["{", "{ "].map(|brace| format!("init {}", brace.repeat(129)));
     inner.map(in_brackets).into_iter().chain(blocks)
+}
+
+/// The texts of the sample.
+pub fn texts() -> Vec<String> {
+    sample().into_iter().map(|record| record.text).collect()
 }
 
 struct Record {

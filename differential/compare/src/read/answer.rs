@@ -1,5 +1,5 @@
-//! What a call of `parse` or `read` answers and leaves in the lent slices, and what it should, by
-//! the reference.
+//! What a call of `read` answers and leaves in the lent slices, and what it should, by the
+//! reference.
 
 use crate::{
     answer::{MOST_BYTES, NOT_UTF8, TOKENS_DONT_FIT, TOO_LONG},
@@ -10,17 +10,12 @@ use oracle::{End, Lengths, Refusal, Run, Words};
 /// The lengths of all slices that are lent, in words.
 #[derive(Debug, Clone, Copy, PartialEq, Eq)]
 pub struct Lent {
-    /// For tokens, where `read` makes them; none where `parse` is given them.
-    pub tokens: Option<usize>,
+    pub tokens: usize,
     pub rest: Lengths,
 }
 
-impl Lent {
-    /// How many counts are given.
-    pub fn counts(&self) -> usize {
-        3 + usize::from(self.tokens.is_some())
-    }
-}
+/// How many counts are given.
+pub const COUNTS: usize = 4;
 
 #[derive(Debug, Clone, PartialEq, Eq)]
 pub struct Answer {
@@ -28,10 +23,9 @@ pub struct Answer {
     pub number: u32,
     /// 0 where the call was done, else the refusal's place.
     pub place: u32,
-    /// Those of tokens (of `read` alone), nodes, value words and reports; as they were lent on
-    /// refusal.
+    /// Those of tokens, nodes, value words and reports; as they were lent on refusal.
     pub counts: Vec<u64>,
-    /// The whole lent slices; no tokens where they are given.
+    /// The whole lent slices.
     pub tokens: Vec<u32>,
     pub nodes: Vec<u32>,
     pub values: Vec<u32>,
@@ -45,7 +39,7 @@ impl Answer {
     /// before it came so far.
     pub fn expected(run: &Run, lent: Lent) -> Option<Answer> {
         let tokens = run.tokens.len();
-        if lent.tokens.is_some_and(|length| length < tokens) {
+        if lent.tokens < tokens {
             return Some(Answer::refused(refusal(TOKENS_DONT_FIT, tokens), lent));
         }
         if let Some(refusal) = run.refusal(lent.rest) {
@@ -68,13 +62,12 @@ impl Answer {
 
     fn done(tokens: &[u32], words: &Words, lent: Lent) -> Answer {
         let Words { nodes, values, reports, .. } = words;
-        let first = lent.tokens.map(|_| tokens.len());
-        let counts = first.into_iter().chain([nodes.len() / 5, values.len(), reports.len() / 3]);
+        let counts = [tokens.len(), nodes.len() / 5, values.len(), reports.len() / 3];
         Answer {
             number: 0,
             place: 0,
-            counts: counts.map(|count| count as u64).collect(),
-            tokens: lent.tokens.map_or(Vec::new(), |length| filled_up(tokens, length)),
+            counts: counts.map(|count| count as u64).to_vec(),
+            tokens: filled_up(tokens, lent.tokens),
             nodes: filled_up(nodes, lent.rest.nodes),
             values: filled_up(values, lent.rest.values),
             reports: filled_up(reports, lent.rest.reports),
@@ -86,8 +79,8 @@ impl Answer {
         Answer {
             number: refusal.number,
             place: refusal.place,
-            counts: vec![COUNT_FILL; lent.counts()],
-            tokens: vec![0; lent.tokens.unwrap_or(0)],
+            counts: vec![COUNT_FILL; COUNTS],
+            tokens: vec![0; lent.tokens],
             nodes: vec![0; lent.rest.nodes],
             values: vec![0; lent.rest.values],
             reports: vec![0; lent.rest.reports],

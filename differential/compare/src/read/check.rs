@@ -2,10 +2,10 @@
 
 use crate::{
     library,
-    parse::{
+    read::{
         answer::{Answer, Lent},
         fault::Fault,
-        lengths::{Call, lent_to_unreadable},
+        lengths::{all_lent, lent_for, lent_to_unreadable},
         tally::Tally,
     },
 };
@@ -25,20 +25,15 @@ enum Expected {
     Start(String),
 }
 
-pub fn first_difference(
-    text: &str,
-    call: Call,
-    fault: Option<Fault>,
-    tally: &mut Tally,
-) -> Option<Difference> {
+pub fn first_difference(text: &str, fault: Option<Fault>, tally: &mut Tally) -> Option<Difference> {
     let mut run = oracle::run(text);
     tally.add_text(&run);
     if let Some(fault) = fault {
         fault.plant(&mut run);
     }
-    let mut all = call.lent(text, &run).into_iter();
+    let mut all = all_lent(text, &run).into_iter();
     let difference = all.find_map(|lent| difference_at(text, &run, lent, fault, tally));
-    difference.or_else(|| difference_in_start(text, call, &run))
+    difference.or_else(|| difference_in_start(text, &run))
 }
 
 /// The same for a text that is too long or isn't UTF-8: `read` refuses it whatever is lent.
@@ -46,7 +41,7 @@ pub fn first_difference_unreadable(text: &[u8], tally: &mut Tally) -> Option<Dif
     lent_to_unreadable(text).into_iter().find_map(|lent| {
         let expected = Answer::unreadable(text, lent)?;
         tally.add_call(expected.number);
-        let found = library::parse(text, &[], lent);
+        let found = library::read(text, lent);
         let is_same = expected == found;
         (!is_same).then_some(Difference { lent, expected: Expected::Answer(expected), found })
     })
@@ -64,7 +59,7 @@ fn difference_at(
         fault.plant_in_answer(&run.tokens, &mut expected);
     }
     tally.add_call(expected.number);
-    let found = library::parse(text.as_bytes(), &run.tokens, lent);
+    let found = library::read(text.as_bytes(), lent);
     let expected = Expected::Answer(expected);
     let is_same = matches!(&expected, Expected::Answer(answer) if *answer == found);
     (!is_same).then_some(Difference { lent, expected, found })
@@ -72,10 +67,10 @@ fn difference_at(
 
 /// Where the reference panics it must be by a known exception, and what it made before must be
 /// what the library makes first.
-fn difference_in_start(text: &str, call: Call, run: &Run) -> Option<Difference> {
+fn difference_in_start(text: &str, run: &Run) -> Option<Difference> {
     let End::Panicked(message) = &run.end else { return None };
-    let lent = call.lent_for(run, plenty(run));
-    let found = library::parse(text.as_bytes(), &run.tokens, lent);
+    let lent = lent_for(run, plenty(run));
+    let found = library::read(text.as_bytes(), lent);
     let mut reports = run.reports.clone();
     let wanted = match Exception::of(message) {
         None => format!("no panic: {message}"),
@@ -84,7 +79,7 @@ fn difference_in_start(text: &str, call: Call, run: &Run) -> Option<Difference> 
                 reports.extend(last_backslash(run));
             }
             let goes_on = found.number == 0
-                && (call == Call::Parse || found.tokens == run.tokens)
+                && found.tokens == run.tokens
                 && found.values.starts_with(&run.values)
                 && found.reports.starts_with(&reports);
             let is_refused = exception == Exception::Fuel && found.number == 3;
@@ -130,10 +125,11 @@ fn last_backslash(run: &Run) -> [u32; 3] {
 impl fmt::Display for Difference {
     fn fmt(&self, f: &mut fmt::Formatter<'_>) -> fmt::Result {
         let Lengths { nodes, values, reports } = self.lent.rest;
-        if let Some(tokens) = self.lent.tokens {
-            writeln!(f, "  lent {tokens} token words")?;
-        }
-        writeln!(f, "  lent {nodes} node, {values} value and {reports} report words")?;
+        let tokens = self.lent.tokens;
+        writeln!(
+            f,
+            "  lent {tokens} token, {nodes} node, {values} value and {reports} report words"
+        )?;
         match &self.expected {
             Expected::Start(wanted) => {
                 writeln!(f, "  expected {wanted}\n  found    {}", Shown(&self.found))

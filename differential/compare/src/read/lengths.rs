@@ -1,43 +1,28 @@
 //! The lengths of the slices that are lent, around what a text needs.
 
-use crate::parse::answer::Lent;
+use crate::read::answer::Lent;
 use generate::Rng;
 use oracle::{Lengths, Run};
 
-/// Which call is compared.
-#[derive(Debug, Clone, Copy, PartialEq, Eq)]
-pub enum Call {
-    Parse,
-    Read,
+/// All that is lent, call by call, with too few words for the tokens, exactly enough, or some more.
+pub fn all_lent(text: &str, run: &Run) -> Vec<Lent> {
+    let need = run.need();
+    let tokens = run.tokens.len();
+    let none = Lengths { nodes: 0, values: 0, reports: 0 };
+    let few = [(tokens - 1, need), (tokens - 1, none), (0, need), (tokens / 2, need)];
+    let enough = lengths(text, need).into_iter().zip(0..).map(|(rest, n)| (tokens + n % 3, rest));
+    few.into_iter().chain(enough).map(|(tokens, rest)| Lent { tokens, rest }).collect()
 }
 
-impl Call {
-    /// All that is lent, call by call. For `read` also too few words for the tokens, or some more.
-    pub fn lent(self, text: &str, run: &Run) -> Vec<Lent> {
-        let need = run.need();
-        let all = lengths(text, need).into_iter();
-        if self == Call::Parse {
-            return all.map(|rest| Lent { tokens: None, rest }).collect();
-        }
-        let tokens = run.tokens.len();
-        let none = Lengths { nodes: 0, values: 0, reports: 0 };
-        let few = [(tokens - 1, need), (tokens - 1, none), (0, need), (tokens / 2, need)];
-        let enough = all.zip(0..).map(|(rest, n)| (tokens + n % 3, rest));
-        let both = few.into_iter().chain(enough);
-        both.map(|(tokens, rest)| Lent { tokens: Some(tokens), rest }).collect()
-    }
-
-    /// So many words for nodes, values and reports, and enough for tokens.
-    pub fn lent_for(self, run: &Run, rest: Lengths) -> Lent {
-        let tokens = (self == Call::Read).then_some(run.tokens.len());
-        Lent { tokens, rest }
-    }
+/// So many words for nodes, values and reports, and enough for tokens.
+pub fn lent_for(run: &Run, rest: Lengths) -> Lent {
+    Lent { tokens: run.tokens.len(), rest }
 }
 
 /// What is lent for a text that is refused whatever is lent.
 pub fn lent_to_unreadable(text: &[u8]) -> [Lent; 3] {
     let lent = |words: usize| Lent {
-        tokens: Some(words),
+        tokens: words,
         rest: Lengths { nodes: words / 2, values: words / 3, reports: words / 4 },
     };
     [lent(0), lent(text.len() % 61), lent(text.len() + 1)]

@@ -1,6 +1,6 @@
 //! How many texts and calls there were of each sort.
 
-use crate::parse::check::Exception;
+use crate::read::check::Exception;
 use oracle::{End, Run};
 use std::{collections::BTreeMap, collections::BTreeSet, fmt};
 

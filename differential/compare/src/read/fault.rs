@@ -1,6 +1,6 @@
 //! Planted faults in the reference's answers, to show that the comparison can fail.
 
-use crate::parse::answer::Answer;
+use crate::read::answer::Answer;
 use oracle::{End, Run, Step};
 
 const BINARY_EXPR: u32 = 15;
@@ -49,10 +49,6 @@ pub const FAULTS: [(&str, Fault); 11] = [
 ];
 
 impl Fault {
-    pub fn named(name: &str) -> Option<Fault> {
-        FAULTS.iter().find(|(known, _)| *known == name).map(|(_, fault)| *fault)
-    }
-
     pub fn plant(self, run: &mut Run) {
         match self {
             Fault::Place => {
@@ -123,13 +119,13 @@ fn turn_numbers(values: &mut [u32]) {
 #[cfg(test)]
 mod tests {
     use super::*;
-    use crate::parse::lengths::Call;
+    use crate::read::lengths::lent_for;
 
     /// Those to a reading with exactly enough words, and with none for values.
     fn answers(run: &Run) -> Vec<Answer> {
         let need = run.need();
         let fewer = oracle::Lengths { values: 0, ..need };
-        let lent = [need, fewer].map(|rest| Call::Read.lent_for(run, rest));
+        let lent = [need, fewer].map(|rest| lent_for(run, rest));
         lent.into_iter().filter_map(|lent| Answer::expected(run, lent)).collect()
     }
 

@@ -1,4 +1,4 @@
-//! The comparison of parsing and of reading.
+//! The comparison of reading.
 
 mod answer;
 mod check;
@@ -10,8 +10,7 @@ mod record;
 mod run;
 mod tally;
 
-pub use answer::{Answer, Lent};
+pub use answer::{Answer, COUNTS, Lent};
 pub use fault::{FAULTS, Fault};
-pub use lengths::Call;
-pub use record::write as record;
+pub use record::{texts as recorded_texts, write as record};
 pub use run::run;
