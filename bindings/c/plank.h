@@ -529,7 +529,7 @@ struct plank_counts {
 };
 
 /* Tokens: the first, and the one past the last. */
-struct plank_span {
+struct plank_token_span {
     uint32_t start;
     uint32_t end;
 };
@@ -748,7 +748,7 @@ static inline uint64_t plank_checked_view(uint32_t which, const uint32_t *nodes,
 
 /* `span` is written where the answer is 0; a null pointer is a misuse. */
 static inline uint64_t plank_checked_view_span(uint32_t which, const uint32_t *nodes, size_t nodes_len, uint32_t n,
-                                               struct plank_span *span) {
+                                               struct plank_token_span *span) {
     uint32_t nowhere = 0;
     uint32_t told[2] = {0, 0};
     uint64_t answer = plank_check_slice(nodes, nodes_len, sizeof(uint32_t), PLANK_SLICE_NODES);
@@ -784,7 +784,7 @@ static inline uint64_t plank_checked_view_count(uint32_t which, const uint32_t *
     }
 /* uint64_t plank_binary_expr_op_span(nodes, len, n, &span) */
 #define PLANK_SPAN_VIEW(name, NAME)                                                               \
-    static inline uint64_t plank_##name(const uint32_t *nodes, size_t len, uint32_t n, struct plank_span *span) { \
+    static inline uint64_t plank_##name(const uint32_t *nodes, size_t len, uint32_t n, struct plank_token_span *span) { \
         return plank_checked_view_span(PLANK_VIEW_##NAME, nodes, len, n, span);                   \
     }
 /* uint64_t plank_call_expr_arg_count(nodes, len, n) */

@@ -183,7 +183,7 @@ impl<'cst> CallExpr<'cst> {
         MemberExpr::new(callee)
     }
 
-    pub fn args(&self) -> impl Iterator<Item = Expr<'cst>> {
+    pub fn args(&self) -> impl Iterator<Item = Expr<'cst>> + use<'cst> {
         self.view.children().skip(1).map(Expr::new_unwrap)
     }
 
@@ -230,11 +230,11 @@ impl<'cst> StructDef<'cst> {
         first.map(|_| Expr::part_unwrap(self.view, accessor::STRUCT_DEF_INDEX_EXPR, 0))
     }
 
-    pub fn fields(&self) -> impl Iterator<Item = Result<FieldDef<'cst>, TokenSpan>> {
+    pub fn fields(&self) -> impl Iterator<Item = Result<FieldDef<'cst>, TokenSpan>> + use<'cst> {
         self.body_node.children().filter_map(|child| FieldDef::try_new(child).transpose())
     }
 
-    pub fn methods(&self) -> impl Iterator<Item = Result<MethodDef<'cst>, TokenSpan>> {
+    pub fn methods(&self) -> impl Iterator<Item = Result<MethodDef<'cst>, TokenSpan>> + use<'cst> {
         self.body_node.children().filter_map(|child| MethodDef::try_new(child).transpose())
     }
 
@@ -286,7 +286,7 @@ impl<'cst> StructLit<'cst> {
         Expr::part_unwrap(self.view, accessor::STRUCT_LIT_TYPE_EXPR, 0)
     }
 
-    pub fn fields(&self) -> impl Iterator<Item = Result<FieldAssign<'cst>, TokenSpan>> {
+    pub fn fields(&self) -> impl Iterator<Item = Result<FieldAssign<'cst>, TokenSpan>> + use<'cst> {
         self.view.children().skip(1).filter_map(|child| FieldAssign::try_new(child).transpose())
     }
 
@@ -334,7 +334,7 @@ pub struct TupleType<'cst> {
 }
 
 impl<'cst> TupleType<'cst> {
-    pub fn fields(&self) -> impl Iterator<Item = Expr<'cst>> {
+    pub fn fields(&self) -> impl Iterator<Item = Expr<'cst>> + use<'cst> {
         self.view.children().map(Expr::new_unwrap)
     }
 
@@ -350,7 +350,7 @@ pub struct TupleLit<'cst> {
 }
 
 impl<'cst> TupleLit<'cst> {
-    pub fn fields(&self) -> impl Iterator<Item = Expr<'cst>> {
+    pub fn fields(&self) -> impl Iterator<Item = Expr<'cst>> + use<'cst> {
         self.view.children().map(Expr::new_unwrap)
     }
 
@@ -379,7 +379,9 @@ impl<'cst> IfExpr<'cst> {
         self.body
     }
 
-    pub fn else_if_branches(&self) -> impl Iterator<Item = Result<ElseIfBranch<'cst>, TokenSpan>> {
+    pub fn else_if_branches(
+        &self,
+    ) -> impl Iterator<Item = Result<ElseIfBranch<'cst>, TokenSpan>> + use<'cst> {
         let list = self.view.child(2).into_iter();
         list.flat_map(NodeView::children)
             .filter_map(|child| ElseIfBranch::try_new(child).transpose())
@@ -441,7 +443,7 @@ impl<'cst> MatchExpr<'cst> {
     }
 
     /// `Err(span)` where a part is missing, or another node stands among the arms.
-    pub fn arms(&self) -> impl Iterator<Item = Result<MatchArm<'cst>, TokenSpan>> {
+    pub fn arms(&self) -> impl Iterator<Item = Result<MatchArm<'cst>, TokenSpan>> + use<'cst> {
         self.arm_list.children().map(|view| MatchArm::new(view).ok_or(view.span()))
     }
 
@@ -518,7 +520,7 @@ impl<'cst> FnDef<'cst> {
         self.param_list.span()
     }
 
-    pub fn params(&self) -> impl Iterator<Item = Result<Param<'cst>, TokenSpan>> {
+    pub fn params(&self) -> impl Iterator<Item = Result<Param<'cst>, TokenSpan>> + use<'cst> {
         self.param_list.children().filter_map(|child| Param::try_new(child).transpose())
     }
 
@@ -561,7 +563,7 @@ impl<'cst> MethodDef<'cst> {
         self.param_list.span()
     }
 
-    pub fn params(&self) -> impl Iterator<Item = Result<Param<'cst>, TokenSpan>> {
+    pub fn params(&self) -> impl Iterator<Item = Result<Param<'cst>, TokenSpan>> + use<'cst> {
         self.param_list.children().filter_map(|child| Param::try_new(child).transpose())
     }
 
@@ -788,7 +790,7 @@ impl<'cst> BlockExpr<'cst> {
         view.tells_node(which, 0).map(|view| Self { view })
     }
 
-    pub fn statements(&self) -> impl Iterator<Item = Statement<'cst>> {
+    pub fn statements(&self) -> impl Iterator<Item = Statement<'cst>> + use<'cst> {
         let list = self.view.child(0).into_iter();
         list.flat_map(NodeView::children)
             .map(|view| Statement::new(view).unwrap_or(Statement::Error { span: view.span() }))

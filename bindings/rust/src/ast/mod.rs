@@ -195,7 +195,7 @@ impl<'cst> ImportGroup<'cst> {
         buf.extend(self.view.children().take_while(is_path).filter_map(NodeView::ident));
     }
 
-    pub fn items(&self) -> impl Iterator<Item = ImportGroupItemView<'cst>> {
+    pub fn items(&self) -> impl Iterator<Item = ImportGroupItemView<'cst>> + use<'cst> {
         let items = self.view.children().filter(|child| child.kind() == NodeKind::ImportGroupItem);
         items.map(|view| ImportGroupItemView { view })
     }
@@ -258,7 +258,7 @@ impl<'cst> File<'cst> {
         Self(view)
     }
 
-    pub fn iter_defs(&self) -> impl Iterator<Item = TopLevelDef<'cst>> {
+    pub fn iter_defs(&self) -> impl Iterator<Item = TopLevelDef<'cst>> + use<'cst> {
         self.0.children().map(TopLevelDef::new)
     }
 
