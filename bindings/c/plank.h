@@ -408,6 +408,12 @@ enum plank_views {
     PLANK_VIEW_MATCH_FALLBACK_ARM_BODY = 207
 };
 
+/* The bits of each word's low part (crates/words/src/lib.rt). */
+#define PLANK_TOKEN_LOW 25
+#define PLANK_NODE_LOW 26
+#define PLANK_VALUE_LOW 30
+#define PLANK_REPORT_LOW 26
+
 /* The words of one node and of one report. */
 #define PLANK_NODE_WIDTH 5
 #define PLANK_REPORT_WIDTH 3
@@ -523,7 +529,7 @@ struct plank_counts {
 };
 
 /* Tokens: the first, and the one past the last. */
-struct plank_span {
+struct plank_token_span {
     uint32_t start;
     uint32_t end;
 };
@@ -618,12 +624,12 @@ static inline uint64_t plank_checked_read(const uint8_t *text, size_t text_len, 
 /* ---- Words taken apart. */
 
 static inline uint32_t plank_token_kind(uint32_t word) {
-    return word >> 25;
+    return word >> PLANK_TOKEN_LOW;
 }
 
 /* The offset just past the token's last byte. */
 static inline uint32_t plank_token_end(uint32_t word) {
-    return word & ((UINT32_C(1) << 25) - 1);
+    return word & ((UINT32_C(1) << PLANK_TOKEN_LOW) - 1);
 }
 
 /* A part of a text, which stays the text's owner's. */
@@ -665,8 +671,8 @@ static inline int plank_node_at(const uint32_t *nodes, size_t nodes_len, uint32_
         return 0;
     }
     words = nodes + (size_t)PLANK_NODE_WIDTH * n;
-    node->kind = words[0] >> 26;
-    node->payload = words[0] & ((UINT32_C(1) << 26) - 1);
+    node->kind = words[0] >> PLANK_NODE_LOW;
+    node->payload = words[0] & ((UINT32_C(1) << PLANK_NODE_LOW) - 1);
     node->first = words[1];
     node->end = words[2];
     node->next = words[3];
@@ -688,8 +694,8 @@ static inline int plank_report_at(const uint32_t *reports, size_t reports_len, s
         return 0;
     }
     words = reports + PLANK_REPORT_WIDTH * i;
-    report->kind = words[0] >> 26;
-    report->detail = words[0] & ((UINT32_C(1) << 26) - 1);
+    report->kind = words[0] >> PLANK_REPORT_LOW;
+    report->detail = words[0] & ((UINT32_C(1) << PLANK_REPORT_LOW) - 1);
     report->start = words[1];
     report->end = words[2];
     return 1;
@@ -710,8 +716,8 @@ static inline int plank_value_at(const uint32_t *values, size_t values_len, size
     if (values == NULL || offset >= values_len) {
         return 0;
     }
-    tag = values[offset] >> 30;
-    count = values[offset] & ((UINT32_C(1) << 30) - 1);
+    tag = values[offset] >> PLANK_VALUE_LOW;
+    count = values[offset] & ((UINT32_C(1) << PLANK_VALUE_LOW) - 1);
     words = tag == PLANK_VALUE_NUMBER ? count : ((size_t)count + 3) / 4;
     if ((tag != PLANK_VALUE_NUMBER && tag != PLANK_VALUE_STRING) || words > values_len - offset - 1) {
         return 0;
@@ -742,7 +748,7 @@ static inline uint64_t plank_checked_view(uint32_t which, const uint32_t *nodes,
 
 /* `span` is written where the answer is 0; a null pointer is a misuse. */
 static inline uint64_t plank_checked_view_span(uint32_t which, const uint32_t *nodes, size_t nodes_len, uint32_t n,
-                                               struct plank_span *span) {
+                                               struct plank_token_span *span) {
     uint32_t nowhere = 0;
     uint32_t told[2] = {0, 0};
     uint64_t answer = plank_check_slice(nodes, nodes_len, sizeof(uint32_t), PLANK_SLICE_NODES);
@@ -778,7 +784,7 @@ static inline uint64_t plank_checked_view_count(uint32_t which, const uint32_t *
     }
 /* uint64_t plank_binary_expr_op_span(nodes, len, n, &span) */
 #define PLANK_SPAN_VIEW(name, NAME)                                                               \
-    static inline uint64_t plank_##name(const uint32_t *nodes, size_t len, uint32_t n, struct plank_span *span) { \
+    static inline uint64_t plank_##name(const uint32_t *nodes, size_t len, uint32_t n, struct plank_token_span *span) { \
         return plank_checked_view_span(PLANK_VIEW_##NAME, nodes, len, n, span);                   \
     }
 /* uint64_t plank_call_expr_arg_count(nodes, len, n) */
