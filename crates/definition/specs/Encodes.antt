@@ -24,11 +24,11 @@ keep f (x ∷ l) zero y d e (suc j) = refl
 keep f (x ∷ l) (suc i) y d e zero = refl
 keep f (x ∷ l) (suc i) y d e (suc j) = keep f l i y d e j
 
-sets-before : (vs l : List ℕ) (a i : ℕ) → i < a → getD (sets l a vs) i 0 ≡ getD l i 0
+pub sets-before : (vs l : List ℕ) (a i : ℕ) → i < a → getD (sets l a vs) i 0 ≡ getD l i 0
 sets-before [] l a i h = refl
 sets-before (v ∷ vs) l a i h = sets-before vs (set l a v) (suc a) i (omega arith) ∙ getD-set-other l a i v 0 (omega arith)
 
-sets-in : (vs l : List ℕ) (a j : ℕ) → j < length vs → a + length vs ≤ length l → getD (sets l a vs) (a + j) 0 ≡ getD vs j 0
+pub sets-in : (vs l : List ℕ) (a j : ℕ) → j < length vs → a + length vs ≤ length l → getD (sets l a vs) (a + j) 0 ≡ getD vs j 0
 sets-in [] l a j h g = absurd (omega arith)
 sets-in (v ∷ vs) l a zero h g =
     let e : a + 0 ≡ a = omega arith in

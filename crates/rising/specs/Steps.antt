@@ -1,0 +1,203 @@
+-- The rules by which a reader's program is gone through, command by command.
+use mathlib.Core.Path.{_≡_, refl, sym, _∙_, ap}
+use mathlib.Core.Bool.{Bool, true, false}
+use mathlib.Core.Option.{Option, none, some}
+use mathlib.Core.List.{List}
+use Prim.Native.Nat.{ℕ, suc, _+_, _≤_, _<_}
+use native.Mathlib.Omega.{arith}
+use Rattle.words.specs.Node
+use Rattle.definition.specs.declared.Mode.{Mode}
+use Rattle.definition.specs.declared.Unfinished.{Unfinished}
+use Rattle.definition.specs.Prog.{Turn, again, stop, Prog, Give, Then, Branch, Loop, enterExpr, enterBlock, eval}
+use Rattle.definition.specs.Nodes.{allocNodeFrom, allocNode, closeNodeAt, closeNode, updateKind, pushChild}
+use Rattle.rising.specs.Rules.{New, Newer, nothing, newer, Ok, Calm, Fresh, Maybe, Goes, goes, ends, ok-then, then-give, then-branch, then-calm, ok-give, ok-branch, ok-weaken, then-then, ok-loop, calm-position, calm-closeAt, calm-setKind, Order, ok-link, ok-alloc}
+
+pub new : {c a d : ℕ} → c ≤ a → a < d → New c a d
+new l h = record { low = l; high = h }
+
+-- An open node, whose last child is no newer than the newest.
+pub record Open (n : ℕ) (u : Unfinished) (d : ℕ) : Type 0 where
+  pub same : u .node ≡ n
+  pub made : n < d
+  pub last : u .last < d
+
+pub open′ : {n d : ℕ} {u : Unfinished} → u .node ≡ n → n < d → u .last < d → Open n u d
+open′ e l h = record { same = e; made = l; last = h }
+
+module _ {A : Type 0} {c : ℕ} {Q : A → ℕ → Type 0} where
+  pub then-alloc : (start kind payload : ℕ) {f : Unfinished → Prog A} → kind ≤ Node.Error → ((u : Unfinished) → u .node ≡ c → u .last ≡ 0 → Ok (c + 1) Q (f u)) → Ok c Q (Then (allocNodeFrom start kind payload) f)
+  unfolding allocNodeFrom
+  then-alloc start kind payload k h = then-then (ok-then (ok-alloc k) (λ a d l q. rw (q .1) (then-give (h _ (q .0) refl))))
+
+  pub then-alloc-here : (kind payload : ℕ) {f : Unfinished → Prog A} → kind ≤ Node.Error → ((u : Unfinished) → u .node ≡ c → u .last ≡ 0 → Ok (c + 1) Q (f u)) → Ok c Q (Then (allocNode kind payload) f)
+  unfolding allocNode
+  then-alloc-here kind payload k h = then-then (then-calm calm-position (λ start. then-alloc start kind payload k h))
+
+  pub then-push : (u : Unfinished) (a : ℕ) {f : Unfinished → Prog A} → Order (u .last) a → a < c → ((v : Unfinished) → v .node ≡ u .node → v .last ≡ a → Ok c Q (f v)) → Ok c Q (Then (pushChild u a) f)
+  unfolding pushChild
+  then-push u a o l h = then-then (ok-then (ok-link o l) (λ x d g q. rw q (then-give (h _ refl refl))))
+
+  pub then-close : (u : Unfinished) {f : ℕ → Prog A} → Ok c Q (f (u .node)) → Ok c Q (Then (closeNode u) f)
+  unfolding closeNode closeNodeAt
+  then-close u h = then-then (then-calm calm-position (λ end. then-then (then-calm calm-closeAt (λ x. then-give h))))
+
+  pub then-close-at : (u : Unfinished) (end : ℕ) {f : ℕ → Prog A} → Ok c Q (f (u .node)) → Ok c Q (Then (closeNodeAt u end) f)
+  unfolding closeNodeAt
+  then-close-at u end h = then-then (then-calm calm-closeAt (λ x. then-give h))
+
+  pub then-fresh : {p : Prog ℕ} {f : ℕ → Prog A} → Fresh p → ((a d : ℕ) → c ≤ a → a < d → Ok d Q (f a)) → Ok c Q (Then p f)
+  then-fresh x h = ok-then (x .fresh c) (λ a d l q. h a d (q .low) (q .high))
+
+  pub then-maybe : {p : Prog (Option ℕ)} {f : Option ℕ → Prog A} → Maybe p → ((a d : ℕ) → c ≤ a → a < d → Ok d Q (f (some a))) → ((d : ℕ) → c ≤ d → Ok d Q (f none)) → Ok c Q (Then p f)
+  then-maybe {f = f} x h i = ok-then (x .maybe c) go
+    where
+      go : (o : Option ℕ) (d : ℕ) → c ≤ d → Newer c o d → Ok d Q (f o)
+      go none d l nothing = i d l
+      go (some a) d l (newer k j) = h a d k j
+
+  pub then-loop : {S : Type 0} (I : S → ℕ → Type 0) {x : S} {body : S → Prog (Turn S)} {f : S → Prog A} → ((y : S) (d : ℕ) → c ≤ d → I y d → Ok d (Goes I) (body y)) → I x c → ((y : S) (d : ℕ) → c ≤ d → I y d → Ok d Q (f y)) → Ok c Q (Then (Loop x body) f)
+  then-loop I k i h = ok-then (ok-loop I i k) h
+
+module _ {c : ℕ} {Q : ℕ → ℕ → Type 0} where
+  pub ok-close : (u : Unfinished) → Q (u .node) c → Ok c Q (closeNode u)
+  unfolding closeNode closeNodeAt
+  ok-close u q = then-calm calm-position (λ end. then-calm calm-closeAt (λ x. ok-give q))
+
+module _ {c : ℕ} {Q : Unfinished → ℕ → Type 0} where
+  pub ok-push : (u : Unfinished) (a : ℕ) → Order (u .last) a → a < c → ((v : Unfinished) → v .node ≡ u .node → v .last ≡ a → Q v c) → Ok c Q (pushChild u a)
+  unfolding pushChild
+  ok-push u a o l h = ok-then (ok-link o l) (λ x d g q. rw q (ok-give (h _ refl refl)))
+
+pub ok-fresh : {b c : ℕ} {p : Prog ℕ} → Fresh p → b ≤ c → Ok c (New b) p
+ok-fresh {c = c} x l = ok-weaken (x .fresh c) (λ a d g q. record { low = omega (arith, q .low); high = q .high })
+
+pub ok-maybe : {b c : ℕ} {p : Prog (Option ℕ)} → Maybe p → b ≤ c → Ok c (Newer b) p
+ok-maybe {b} {c} x l = ok-weaken (x .maybe c) go
+  where
+    go : (o : Option ℕ) (d : ℕ) → c ≤ d → Newer c o d → Newer b o d
+    go none d g nothing = nothing
+    go (some a) d g (newer k j) = newer {a = a} {d = d} (omega arith) j
+
+pub fresh : {p : Prog ℕ} → ((c : ℕ) → Ok c (New c) p) → Fresh p
+fresh h = record { fresh = h }
+
+pub maybe : {p : Prog (Option ℕ)} → ((c : ℕ) → Ok c (Newer c) p) → Maybe p
+maybe h = record { maybe = h }
+
+-- ---- programs that make no node
+
+pub calm-give : {A : Type 0} {a : A} → Calm (Give a)
+calm-give = record { calm = λ c. ok-give refl }
+
+pub calm-then : {A B : Type 0} {p : Prog A} {f : A → Prog B} → Calm p → ((a : A) → Calm (f a)) → Calm (Then p f)
+calm-then x h = record { calm = λ c. then-calm x (λ a. h a .calm c) }
+
+pub calm-branch : {A : Type 0} {b : Bool} {p q : Prog A} → Calm p → Calm q → Calm (Branch b p q)
+calm-branch x y = record { calm = λ c. ok-branch (x .calm c) (y .calm c) }
+
+pub calm-loop : {S : Type 0} {x : S} {body : S → Prog (Turn S)} → ((y : S) → Calm (body y)) → Calm (Loop x body)
+calm-loop {S} {x} {body} h = record { calm = λ c. ok-loop (λ y d. d ≡ c) refl (λ y d l e. ok-weaken (h y .calm d) (λ t g k q. go t (q ∙ e))) }
+  where
+    go : {c g : ℕ} (t : Turn S) → g ≡ c → Goes (λ y d. d ≡ c) t g
+    go (again y) e = goes e
+    go (stop y) e = ends e
+
+pub calm-updateKind : (u : Unfinished) (kind payload : ℕ) → kind ≤ Node.Error → Calm (updateKind u kind payload)
+unfolding updateKind
+calm-updateKind u kind payload k = calm-setKind k
+
+-- ---- deeper readers
+
+pub maybe-expr : {mode : Mode} {min : ℕ} → Maybe (enterExpr mode min)
+unfolding eval
+maybe-expr {mode} {min} = maybe (λ c. record { run = λ text tokens bound r g s m e w. g .exprs mode min s m c e w })
+
+pub fresh-block : {start kind : ℕ} → kind ≤ Node.Error → Fresh (enterBlock start kind)
+unfolding eval
+fresh-block {start} {kind} k = fresh (λ c. record { run = λ text tokens bound r g s m e w. g .blocks start kind k s m c e w })
+
+-- ---- what a program ends with
+
+pub close-new : {b c : ℕ} (u : Unfinished) → b ≤ u .node → u .node < c → Ok c (New b) (closeNode u)
+close-new u l h = ok-close u (new l h)
+
+pub give-new : {b c a : ℕ} → b ≤ a → a < c → Ok c (New b) (Give a)
+give-new l h = ok-give (new l h)
+
+pub give-newer : {b c a : ℕ} → b ≤ a → a < c → Ok c (Newer b) (Give (some a))
+give-newer l h = ok-give (newer l h)
+
+pub give-nothing : {b c : ℕ} → Ok c (Newer b) (Give none)
+give-nothing = ok-give nothing
+
+pub push-open : {n c : ℕ} (u : Unfinished) (a : ℕ) → Order (u .last) a → a < c → u .node ≡ n → n < c → Ok c (Open n) (pushChild u a)
+push-open u a o l e h = ok-push u a o l (λ v p q. record { same = p ∙ e; made = h; last = omega arith })
+
+pub give-open : {n c : ℕ} (u : Unfinished) → u .node ≡ n → n < c → u .last < c → Ok c (Open n) (Give u)
+give-open u e h l = ok-give (open′ e h l)
+
+pub again-open : {n c : ℕ} (u : Unfinished) → u .node ≡ n → n < c → u .last < c → Ok c (Goes (Open n)) (Give (again u))
+again-open u e h l = ok-give (goes (open′ e h l))
+
+pub stop-open : {n c : ℕ} (u : Unfinished) → u .node ≡ n → n < c → u .last < c → Ok c (Goes (Open n)) (Give (stop u))
+stop-open u e h l = ok-give (ends (open′ e h l))
+
+-- An element of a list: one more, or the list as it is.
+pub data Elem {S : Type 0} (I : S → ℕ → Type 0) (y : S) : Option S → ℕ → Type 0 where
+  got : {z : S} {d : ℕ} → I z d → Elem I y (some z) d
+  left : {d : ℕ} → I y d → Elem I y none d
+
+pub then-elem : {S B : Type 0} {c : ℕ} {Q : B → ℕ → Type 0} {I : S → ℕ → Type 0} {y : S} {p : Prog (Option S)} {f : Option S → Prog B} → Ok c (Elem I y) p
+    → ((z : S) (d : ℕ) → c ≤ d → I z d → Ok d Q (f (some z))) → ((d : ℕ) → c ≤ d → I y d → Ok d Q (f none)) → Ok c Q (Then p f)
+then-elem {S} {B} {c} {Q} {I} {y} {p} {f} x h i = ok-then x go
+  where
+    go : (o : Option S) (d : ℕ) → c ≤ d → Elem I y o d → Ok d Q (f o)
+    go (some z) d l (got j) = h z d l j
+    go none d l (left j) = i d l j
+
+pub got-open : {n c : ℕ} (y u : Unfinished) → u .node ≡ n → n < c → u .last < c → Ok c (Elem (Open n) y) (Give (some u))
+got-open y u e h l = ok-give (got (open′ e h l))
+
+pub left-open : {n c : ℕ} (u : Unfinished) → u .node ≡ n → n < c → u .last < c → Ok c (Elem (Open n) u) (Give none)
+left-open u e h l = ok-give (left (open′ e h l))
+
+-- ---- answers that may be none
+
+pub calm-option : {A B : Type 0} {p : A → Prog B} {q : Prog B} (o : Option A) → ((a : A) → Calm (p a)) → Calm q → Calm {A = B} (elim o [ some a ↦ p a | none ↦ q ])
+calm-option (some a) x y = x a
+calm-option none x y = y
+
+pub ok-option : {A B : Type 0} {c : ℕ} {Q : B → ℕ → Type 0} {p : A → Prog B} {q : Prog B} (o : Option A) → ((a : A) → Ok c Q (p a)) → Ok c Q q → Ok {A = B} c Q (elim o [ some a ↦ p a | none ↦ q ])
+ok-option (some a) x y = x a
+ok-option none x y = y
+
+pub maybe-option : {A : Type 0} {p : A → Prog (Option ℕ)} {q : Prog (Option ℕ)} (o : Option A) → ((a : A) → Maybe (p a)) → Maybe q → Maybe (elim o [ some a ↦ p a | none ↦ q ])
+maybe-option (some a) x y = x a
+maybe-option none x y = y
+
+pub ok-newer : {B : Type 0} {b c : ℕ} {Q : B → ℕ → Type 0} {p : ℕ → Prog B} {q : Prog B} (o : Option ℕ) → Newer b o c → ((a : ℕ) → b ≤ a → a < c → Ok c Q (p a)) → Ok c Q q → Ok {A = B} c Q (elim o [ some a ↦ p a | none ↦ q ])
+ok-newer (some a) (newer l h) x y = x a l h
+ok-newer none nothing x y = y
+
+pub then-newer : {A : Type 0} {b c : ℕ} {Q : A → ℕ → Type 0} {p : Prog (Option ℕ)} {f : Option ℕ → Prog A} → Ok c (Newer b) p → ((a d : ℕ) → c ≤ d → b ≤ a → a < d → Ok d Q (f (some a))) → ((d : ℕ) → c ≤ d → Ok d Q (f none)) → Ok c Q (Then p f)
+then-newer {A} {b} {c} {Q} {p} {f} x h i = ok-then x go
+  where
+    go : (o : Option ℕ) (d : ℕ) → c ≤ d → Newer b o d → Ok d Q (f o)
+    go none d l nothing = i d l
+    go (some a) d l (newer k j) = h a d l k j
+
+-- ---- a child that waits for its place: none, or one that is newer than the list and than the list's last child
+
+pub data Waits (n : ℕ) (u : Unfinished) : Option ℕ → ℕ → Type 0 where
+  idle : {d : ℕ} → Waits n u none d
+  waits : {a d : ℕ} → n < a → u .last < a → a < d → Waits n u (some a) d
+
+pub record Both (n : ℕ) (u : Unfinished) (o : Option ℕ) (d : ℕ) : Type 0 where
+  pub list : Open n u d
+  pub rest : Waits n u o d
+
+pub both-idle : {n d : ℕ} {u : Unfinished} → Open n u d → Both n u none d
+both-idle o = record { list = o; rest = idle }
+
+pub both-waits : {n a d : ℕ} {u : Unfinished} → Open n u d → n < a → u .last < a → a < d → Both n u (some a) d
+both-waits o l h g = record { list = o; rest = waits l h g }
