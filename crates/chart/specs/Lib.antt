@@ -9,4 +9,5 @@ pub mod Rules
 pub mod Sound
 pub mod Complete
 pub mod Errors
+pub mod Kinds
 pub mod Examples

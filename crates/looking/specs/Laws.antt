@@ -5,11 +5,11 @@ use mathlib.Core.List.{List}
 use Prim.Native.Nat.{ℕ, zero, suc, _+_, _-_, _*_, _/_, _≤_, _<_}
 use native.Mathlib.Omega.{arith}
 use lib.Dec.{eqb, ltb, leb}
-use borrow.Author.Tests.{ltb-false, le-leb, lt-leb, le-ltb, lt-ltb, eq-eqb, ne-eqb}
+use borrow.Author.Tests.{eqb-true, eqb-false, ltb-true, ltb-false, leb-true, leb-false, le-leb, lt-leb, le-ltb, lt-ltb, eq-eqb, ne-eqb}
 use Rattle.words.specs.Node
 use Rattle.words.specs.Refusal
 use Rattle.words.specs.declared.node.Node.{Node as Fields}
-use Rattle.looking.specs.View.{Seen, is, none, refused, andThen, orElse, count, nodeAt, falls, sound, look, among, nth, counted, of}
+use Rattle.looking.specs.View.{Seen, is, none, refused, andThen, orElse, count, nodeAt, falls, sound, look, among, nth, counted, turns, of}
 
 -- ---- a node that is looked at
 
@@ -220,3 +220,77 @@ pub is-first : (a b : ℕ) → a < b → is 0 ≡ is (a - b)
 is-first a b h =
     let e : 0 ≡ a - b = omega arith in
     ap (λ (n : ℕ). is n) e
+
+-- ---- a walk over siblings never runs out of turns
+
+-- The siblings from a node on end, by 0 or by a node that is refused, while turns are left: with no turns there is no rule.
+pub data Ends (ns : List ℕ) : ℕ → ℕ → Type 0 where
+  over : (k : ℕ) → Ends ns (suc k) 0
+  altered : (k at number place : ℕ) → refused number place ≡ look ns at → Ends ns (suc k) at
+  goes : (k at : ℕ) (f : Fields) → is f ≡ look ns at → Ends ns k (f .next) → Ends ns (suc k) at
+
+module _ (ns : List ℕ) where
+  no-more : (k : ℕ) → 0 < k → Ends ns k 0
+  no-more zero h = absurd (omega arith)
+  no-more (suc k) h = over k
+
+  -- a node that is there goes on to one above it, or is the last, or is refused
+  passes : (k at : ℕ) (f : Fields) → at < count ns → f ≡ nodeAt ns at → 0 < k → ((next : ℕ) → at < next → Ends ns k next) → Ends ns (suc k) at
+  passes k at f h e z above = go (ltb Node.Error (f .kind)) (eqb (f .next) 0) (leb (f .next) at) refl refl refl
+    where
+      told : (s : Seen Fields) → s ≡ sound at f → s ≡ look ns at
+      told s i = looked ns at h f e s i
+
+      go : (t u v : Bool) → ltb Node.Error (f .kind) ≡ t → eqb (f .next) 0 ≡ u → leb (f .next) at ≡ v → Ends ns (suc k) at
+      go true u v p q r = altered k at _ _ (told _ (kind-above at f (ltb-true Node.Error (f .kind) p)))
+      go false true v p q r =
+          let l : f .next ≡ 0 = eqb-true (f .next) 0 q in
+          goes k at f (told _ (last at f (ltb-false Node.Error (f .kind) p) l)) (rw l (no-more k z))
+      go false false true p q r = altered k at _ _ (told _ (next-falls at f (ltb-false Node.Error (f .kind) p) (eqb-false (f .next) 0 q) (leb-true (f .next) at r)))
+      go false false false p q r =
+          let l : at < f .next = leb-false (f .next) at r in
+          goes k at f (told _ (next-rises at f (ltb-false Node.Error (f .kind) p) (eqb-false (f .next) 0 q) l)) (above (f .next) l)
+
+  -- one turn, where the next node is above
+  turn : (k at : ℕ) → count ns < suc k + at → ((next : ℕ) → at < next → count ns < k + next → 0 < k → Ends ns k next) → Ends ns (suc k) at
+  turn k at h above = go (eqb at 0) (leb (count ns) at) refl refl
+    where
+      go : (t u : Bool) → eqb at 0 ≡ t → leb (count ns) at ≡ u → Ends ns (suc k) at
+      go true u p q =
+          let e : at ≡ 0 = eqb-true at 0 p in
+          rw e (over k)
+      go false true p q = altered k at _ _ (look-past ns at (leb-true (count ns) at q))
+      go false false p q =
+          let l : at < count ns = leb-false (count ns) at q in
+          passes k at (nodeAt ns at) l refl (omega arith) (λ next r. above next r (omega arith) (omega arith))
+
+  -- each turn leaves fewer nodes above the one that is looked at
+  rising : (k at : ℕ) → count ns < k + at → 0 < k → Ends ns k at
+  rising zero at h z = absurd (omega arith)
+  rising (suc k) at h z = turn k at h (λ next r i p. rising k next i p)
+
+  -- `turns ns` are enough, from any node on: no walk is ever asked with none left
+  pub ends : (at : ℕ) → Ends ns (turns ns) at
+  ends at = rising (turns ns) at (omega arith) (omega arith)
+
+  module _ (stop from to : ℕ) where
+    nth-more : (k at : ℕ) → Ends ns k at → (j i : ℕ) → k ≤ j → nth j stop from to ns at i ≡ nth k stop from to ns at i
+    unfolding nth andThen
+    nth-more (suc k) at w zero i h = absurd (omega arith)
+    nth-more (suc k) at (over _) (suc j) i h = refl
+    nth-more (suc k) at (altered _ _ number place e) (suc j) i h = rw (← e)
+    nth-more (suc k) at (goes _ _ f e w) (suc j) i h = rw (← e, nth-more k (f .next) w j (i - 1) (omega arith), nth-more k (f .next) w j i (omega arith))
+
+    counted-more : (k at : ℕ) → Ends ns k at → (j sum : ℕ) → k ≤ j → counted j stop from to ns at sum ≡ counted k stop from to ns at sum
+    unfolding counted andThen
+    counted-more (suc k) at w zero sum h = absurd (omega arith)
+    counted-more (suc k) at (over _) (suc j) sum h = refl
+    counted-more (suc k) at (altered _ _ number place e) (suc j) sum h = rw (← e)
+    counted-more (suc k) at (goes _ _ f e w) (suc j) sum h = rw (← e, counted-more k (f .next) w j _ (omega arith))
+
+    -- so any more turns give the same answer
+    pub nth-enough : (at i j : ℕ) → turns ns ≤ j → nth j stop from to ns at i ≡ nth (turns ns) stop from to ns at i
+    nth-enough at i j h = nth-more (turns ns) at (ends at) j i h
+
+    pub counted-enough : (at sum j : ℕ) → turns ns ≤ j → counted j stop from to ns at sum ≡ counted (turns ns) stop from to ns at sum
+    counted-enough at sum j h = counted-more (turns ns) at (ends at) j sum h

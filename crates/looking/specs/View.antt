@@ -58,8 +58,8 @@ andThen none f = none
 andThen (refused number place) f = refused number place
 
 -- What a view finds, or where it finds none another one.
-unfoldable pub orElse : Seen ℕ → Seen ℕ → Seen ℕ
-orElse (is n) s = is n
+unfoldable pub orElse : {A : Type 0} → Seen A → Seen A → Seen A
+orElse (is a) s = is a
 orElse none s = s
 orElse (refused number place) s = refused number place
 
@@ -90,7 +90,7 @@ among from to kind = leb from kind && leb kind to
 
 -- `children().filter(..).nth(i)` from a sibling on: the i-th of those whose kind is among the wanted, up to the first whose kind is
 -- `stop`. Each is looked at, and a next sibling is above its own node, so no row of siblings has more nodes than there are: `turns` of
--- one more than that never run out.
+-- one more than that never run out, and the first line is never asked (`ends` of `Laws`).
 unfoldable pub nth : ℕ → ℕ → ℕ → ℕ → List ℕ → ℕ → ℕ → Seen ℕ
 nth zero stop from to ns at i = none
 nth (suc turns) stop from to ns at i =

@@ -11,23 +11,14 @@ read-requires c κs = search needs
 enum-known-t : tie.Need-enum-known-t
 enum-known-t c = search needs
 
-put-all-counts-requires : tie.Need-put-all-counts-requires
-put-all-counts-requires c κs = search needs
+put-counts-requires : tie.Need-put-counts-requires
+put-counts-requires c κs = search needs
 
 enum-known-number : tie.Need-enum-known-number
 enum-known-number c = search needs
 
-cast-result : tie.Need-cast-result
-cast-result c = search needs
-
-mul-result : tie.Need-mul-result
-mul-result c = search needs
-
-cast-result-2 : tie.Need-cast-result-2
-cast-result-2 c = search needs
-
-add-result : tie.Need-add-result
-add-result c = search needs
+refusal-code-requires : tie.Need-refusal-code-requires
+refusal-code-requires c κs = search needs
 
 same-length : tie.Need-same-length
 same-length c = search needs
@@ -45,7 +36,7 @@ same-length-5 : tie.Need-same-length-5
 same-length-5 c = search needs
 
 returns : tie.Need-returns
-returns c = told (c .before .before .before .before .before .before .before .before .before .before .before .before .before .before .before .read .ensures .0) (c .before .before .before .before .before .t .given .1) refl (c .before .before .put-all-counts .ensures)
+returns c = told (c .before .before .before .before .before .before .before .before .before .before .before .before .before .before .before .read .ensures .0) (c .before .before .before .before .before .t .given .1) refl (c .before .before .put-counts .ensures)
 
 same-length-6 : tie.Need-same-length-6
 same-length-6 c = search needs
@@ -60,7 +51,7 @@ same-length-9 : tie.Need-same-length-9
 same-length-9 c = search needs
 
 returns-2 : tie.Need-returns-2
-returns-2 c = told (c .before .before .before .before .before .before .before .before .before .before .before .read .ensures .0) (c .before .number .given .1) refl refl
+returns-2 c = told (c .before .before .before .before .before .before .before .before .before .before .before .before .read .ensures .0) (c .before .before .number .given .1) (c .refusal-code .ensures) refl
 
 pub plank-read-spec : {M : Type 1} → statement M
 plank-read-spec =
@@ -68,12 +59,9 @@ plank-read-spec =
     (tie.spec
     read-requires
     enum-known-t
-    put-all-counts-requires
+    put-counts-requires
     enum-known-number
-    cast-result
-    mul-result
-    cast-result-2
-    add-result
+    refusal-code-requires
     same-length
     same-length-2
     same-length-3

@@ -1,0 +1,66 @@
+// A view of a node, which keeps the node words it looks at (`NodeView` of cst/mod.rs). Each function takes it apart and asks crate looking.
+ghost use mathlib.Core.Path.{_≡_};
+ghost use Rattle.looking.specs.View.{answer, spans, ident};
+ghost use Rattle.looking.specs.Any.{kind, span, child};
+use looking::Spanned;
+use looking::View;
+use looking::any;
+
+pub struct NodeView<'a> {
+    pub nodes: &'a [u32],
+    pub n: u32,
+}
+
+impl<'a> NodeView<'a> {
+    // A view of any node of any words: nothing is looked at yet.
+    pub fn new(nodes: &'a [u32], n: u32) -> NodeView<'a>
+        ensures { λ r. ⌜ (r .nodes ≡ nodes .entry) × (r .n ≡ n) ⌝ }
+    {
+        NodeView { nodes, n }
+    }
+
+    // A view of another node of the same words, such as a child.
+    pub fn at(self, n: u32) -> NodeView<'a>
+        ensures { λ r. ⌜ (r .nodes ≡ self .entry .nodes) × (r .n ≡ n) ⌝ }
+    {
+        NodeView {
+            nodes: self.nodes,
+            n,
+        }
+    }
+
+    // `NodeView::kind`.
+    pub fn kind(self) -> View
+        ensures { λ r. ⌜ answer r ≡ kind (now (self .entry .nodes)) (self .entry .n) ⌝ }
+    {
+        any::kind(self.nodes, self.n)
+    }
+
+    // `NodeView::span`.
+    pub fn span(self) -> Spanned
+        ensures { λ r. ⌜ spans r ≡ span (now (self .entry .nodes)) (self .entry .n) ⌝ }
+    {
+        any::span(self.nodes, self.n)
+    }
+
+    // `NodeView::child`: the child's number, of which `at` makes a view.
+    pub fn child(self, i: u32) -> View
+        ensures { λ r. ⌜ answer r ≡ child i (now (self .entry .nodes)) (self .entry .n) ⌝ }
+    {
+        any::child(self.nodes, self.n, i)
+    }
+
+    // `NodeView::ident`.
+    pub fn ident(self) -> View
+        ensures { λ r. ⌜ answer r ≡ ident (now (self .entry .nodes)) (self .entry .n) ⌝ }
+    {
+        any::ident(self.nodes, self.n)
+    }
+}
+
+// The child of a node, for callers that have plain words.
+pub fn child_at(nodes: &[u32], n: u32, i: u32) -> View
+    ensures { λ r. ⌜ answer r ≡ child i (now (nodes .entry)) n ⌝ }
+{
+    NodeView::new(nodes, n).child(i)
+}

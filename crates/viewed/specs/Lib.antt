@@ -1,0 +1,9 @@
+pub mod Numbered
+pub mod Query
+pub mod Viewed
+pub mod Questions
+pub mod Table
+pub mod Example
+pub mod Stands
+pub mod Answers
+pub mod Proved
