@@ -3,7 +3,8 @@ ghost use mathlib.Core.Path.{_≡_};
 ghost use lib.ListN.{length};
 ghost use Rattle.lexer.specs.Lex.{lexed, lexedWords};
 ghost use Rattle.reader.specs.Read.{reads};
-ghost use Rattle.codes.specs.Coded.{coded};
+ghost use Rattle.codes.specs.Coded.{coded, viewed, spanned, bounds};
+ghost use Rattle.accessors.specs.Views.{numberView, spanView, countView};
 ghost use Rattle.plank.specs.Reads.{lent};
 ghost use Rattle.exports.specs.Told.{Told};
 use lexer::Lexed;
@@ -40,4 +41,29 @@ pub extern "C" fn plank_read(
         }
         Outcome::Refused(number, place) => codes::refusal_code(number, place),
     }
+}
+
+// What the accessor `which` (`accessors::number`) tells of node `n`: a number, 2 to the 63rd for none, or refusal 8 times 2 to the 32nd
+// and its place. Accessors of lists tell their i-th.
+#[no_mangle]
+pub extern "C" fn plank_view(which: u32, nodes: &[u32], n: u32, i: u32) -> u64
+    ensures { λ r. ⌜ r ≡ viewed (numberView which i (now (nodes .entry)) n) ⌝ }
+{
+    codes::view_code(accessors::number_view(which, nodes, n, i))
+}
+
+// As `plank_view`, of the accessors that count.
+#[no_mangle]
+pub extern "C" fn plank_view_count(which: u32, nodes: &[u32], n: u32) -> u64
+    ensures { λ r. ⌜ r ≡ viewed (countView which (now (nodes .entry)) n) ⌝ }
+{
+    codes::view_count_code(accessors::count_view(which, nodes, n))
+}
+
+// As `plank_view`, of the accessors that tell tokens: 0, and the first token and the one past the last in `span`, where it has two words.
+#[no_mangle]
+pub extern "C" fn plank_view_span(which: u32, nodes: &[u32], n: u32, span: &mut [u32]) -> u64
+    ensures { λ r. ⌜ (r ≡ spanned (spanView which (now (nodes .entry)) n)) × (now (span .exit) ≡ bounds (spanView which (now (nodes .entry)) n) (now (span .entry))) ⌝ }
+{
+    codes::view_span_code(accessors::span_view(which, nodes, n), span)
 }

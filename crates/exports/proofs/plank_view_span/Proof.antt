@@ -2,8 +2,8 @@
 use mathlib.Core.Path.{_∙_, ap}
 use Rattle.codes.specs.Coded.{spanned}
 use borrow.Author.Needs.{needs}
-use Rattle.view_exports.proofs.plank_view_span.Statement.{statement}
-use Rattle.view_exports.proofs.plank_view_span.Tie as tie
+use Rattle.exports.proofs.plank_view_span.Statement.{statement}
+use Rattle.exports.proofs.plank_view_span.Tie as tie
 
 span-view-requires : tie.Need-span-view-requires
 span-view-requires c κs = search needs

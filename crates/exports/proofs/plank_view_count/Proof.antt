@@ -2,8 +2,8 @@
 use mathlib.Core.Path.{_∙_, ap}
 use Rattle.codes.specs.Coded.{viewed}
 use borrow.Author.Needs.{needs}
-use Rattle.view_exports.proofs.plank_view_count.Statement.{statement}
-use Rattle.view_exports.proofs.plank_view_count.Tie as tie
+use Rattle.exports.proofs.plank_view_count.Statement.{statement}
+use Rattle.exports.proofs.plank_view_count.Tie as tie
 
 count-view-requires : tie.Need-count-view-requires
 count-view-requires c κs = search needs

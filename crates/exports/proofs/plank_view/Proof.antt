@@ -2,8 +2,8 @@
 use mathlib.Core.Path.{_∙_, ap}
 use Rattle.codes.specs.Coded.{viewed}
 use borrow.Author.Needs.{needs}
-use Rattle.view_exports.proofs.plank_view.Statement.{statement}
-use Rattle.view_exports.proofs.plank_view.Tie as tie
+use Rattle.exports.proofs.plank_view.Statement.{statement}
+use Rattle.exports.proofs.plank_view.Tie as tie
 
 number-view-requires : tie.Need-number-view-requires
 number-view-requires c κs = search needs
