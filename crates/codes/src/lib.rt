@@ -43,7 +43,7 @@ pub fn view_code(seen: View) -> u64
     }
 }
 
-pub fn count_code(seen: Count) -> u64
+pub fn view_count_code(seen: Count) -> u64
     ensures { λ r. ⌜ r ≡ viewed (counts seen) ⌝ }
 {
     match seen {
@@ -65,7 +65,7 @@ fn put_span(lent: &mut [u32], span: TokenSpan)
 }
 
 // What a view of tokens tells: 0, and the tokens in `lent`, none, or a refusal.
-pub fn span_code(seen: Spanned, lent: &mut [u32]) -> u64
+pub fn view_span_code(seen: Spanned, lent: &mut [u32]) -> u64
     ensures { λ r. ⌜ (r ≡ spanned (spans seen)) × (now (lent .exit) ≡ bounds (spans seen) (now (lent .entry))) ⌝ }
 {
     match seen {

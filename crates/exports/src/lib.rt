@@ -3,8 +3,8 @@ ghost use mathlib.Core.Path.{_≡_};
 ghost use lib.ListN.{length};
 ghost use Rattle.lexer.specs.Lex.{lexed, lexedWords};
 ghost use Rattle.reader.specs.Read.{reads};
-ghost use Rattle.accessors.specs.Views.{numberView, spanView, countView};
 ghost use Rattle.codes.specs.Coded.{coded, viewed, spanned, bounds};
+ghost use Rattle.accessors.specs.Views.{numberView, spanView, countView};
 ghost use Rattle.plank.specs.Reads.{lent};
 ghost use Rattle.exports.specs.Told.{Told};
 use lexer::Lexed;
@@ -57,7 +57,7 @@ pub extern "C" fn plank_view(which: u32, nodes: &[u32], n: u32, i: u32) -> u64
 pub extern "C" fn plank_view_count(which: u32, nodes: &[u32], n: u32) -> u64
     ensures { λ r. ⌜ r ≡ viewed (countView which (now (nodes .entry)) n) ⌝ }
 {
-    codes::count_code(accessors::count_view(which, nodes, n))
+    codes::view_count_code(accessors::count_view(which, nodes, n))
 }
 
 // As `plank_view`, of the accessors that tell tokens: 0, and the first token and the one past the last in `span`, where it has two words.
@@ -65,5 +65,5 @@ pub extern "C" fn plank_view_count(which: u32, nodes: &[u32], n: u32) -> u64
 pub extern "C" fn plank_view_span(which: u32, nodes: &[u32], n: u32, span: &mut [u32]) -> u64
     ensures { λ r. ⌜ (r ≡ spanned (spanView which (now (nodes .entry)) n)) × (now (span .exit) ≡ bounds (spanView which (now (nodes .entry)) n) (now (span .entry))) ⌝ }
 {
-    codes::span_code(accessors::span_view(which, nodes, n), span)
+    codes::view_span_code(accessors::span_view(which, nodes, n), span)
 }

@@ -17,7 +17,9 @@ const SAMPLES: usize = 21;
 const SAMPLE: f64 = 0.02;
 
 fn main() {
-    println!("ns a byte: the middle of {SAMPLES} samples; ratios: the middle, lower and upper quarter");
+    println!(
+        "ns a byte: the middle of {SAMPLES} samples; ratios: the middle, lower and upper quarter"
+    );
     println!(
         "{:<22}{:>7}{:>10}{:>10}{:>10}  {:<20}  {}",
         "kind", "bytes", "read", "lex+parse", "parse", "read / lex+parse", "read / parse"

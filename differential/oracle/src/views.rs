@@ -90,7 +90,9 @@ impl Tree {
             };
             assert!(before.is_none_or(|before| before == payload), "two payloads for one thing");
             if LEAF_KINDS.contains(&(words[0] >> 26)) {
-                self.leaves.insert([words[0] >> 26, words[1], words[2]], number as u32);
+                let before =
+                    self.leaves.insert([words[0] >> 26, words[1], words[2]], number as u32);
+                assert!(before.is_none(), "two leaves of one kind with the same tokens");
             }
         }
     }

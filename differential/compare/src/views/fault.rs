@@ -56,3 +56,47 @@ impl Fault {
         }
     }
 }
+
+#[cfg(test)]
+mod tests {
+    use super::*;
+    use oracle::views::{LISTS, NUMBERS, SPANS, Tree};
+
+    /// How many answers of the accessors are changed.
+    fn changed(tree: &mut Tree, fault: Fault) -> usize {
+        let mut changed = 0;
+        for number in 0..tree.count() {
+            let node = tree.node(number);
+            for one in NUMBERS {
+                let told = (one.told)(&node).answer;
+                let mut planted = told;
+                fault.plant_in_number(one.name, &mut planted);
+                changed += usize::from(planted != told);
+            }
+            for one in SPANS {
+                let told = (one.told)(&node).answer;
+                let mut planted = told;
+                fault.plant_in_span(one.name, &mut planted);
+                changed += usize::from(planted != told);
+            }
+            for list in LISTS {
+                let told = (list.told)(&node).answer;
+                let mut planted = told.clone();
+                fault.plant_in_list(list.name, &mut planted);
+                changed += usize::from(planted != told);
+            }
+        }
+        changed
+    }
+
+    #[test]
+    fn each_fault_changes_something() {
+        let text = "const a = b.c + d(e); init { let mut f = 1; }";
+        let mut tree = Tree::read(text).expect("a tree");
+        for (name, fault) in FAULTS {
+            // The last is planted in refusals, which no tree has.
+            let is_seen = changed(&mut tree, fault) > 0;
+            assert_eq!(is_seen, fault != Fault::Place, "{name}");
+        }
+    }
+}

@@ -1,8 +1,8 @@
--- `span_code` meets its contract.
+-- `view_span_code` meets its contract.
 use mathlib.Core.Path.{refl, _∙_}
 use borrow.Author.Needs.{needs}
-use Rattle.codes.proofs.span_code.Statement.{statement}
-use Rattle.codes.proofs.span_code.Tie as tie
+use Rattle.codes.proofs.view_span_code.Statement.{statement}
+use Rattle.codes.proofs.view_span_code.Tie as tie
 
 enum-known-seen : tie.Need-enum-known-seen
 enum-known-seen c = search needs
@@ -33,8 +33,8 @@ returns-2 c = search needs
 returns-3 : tie.Need-returns-3
 returns-3 c = (c .refusal-code .ensures ∙ rw (c .before .before .seen2 .given .1), rw (c .before .before .seen2 .given .1))
 
-pub span-code-spec : {M : Type 1} → statement M
-span-code-spec =
+pub view-span-code-spec : {M : Type 1} → statement M
+view-span-code-spec =
     tie.close
     (tie.spec
     enum-known-seen

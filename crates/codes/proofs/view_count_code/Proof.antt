@@ -1,8 +1,8 @@
--- `count_code` meets its contract.
+-- `view_count_code` meets its contract.
 use mathlib.Core.Path.{_∙_}
 use borrow.Author.Needs.{needs}
-use Rattle.codes.proofs.count_code.Statement.{statement}
-use Rattle.codes.proofs.count_code.Tie as tie
+use Rattle.codes.proofs.view_count_code.Statement.{statement}
+use Rattle.codes.proofs.view_count_code.Tie as tie
 
 enum-known-seen : tie.Need-enum-known-seen
 enum-known-seen c = search needs
@@ -25,8 +25,8 @@ returns-2 c = search needs
 returns-3 : tie.Need-returns-3
 returns-3 c = c .refusal-code .ensures ∙ rw (c .before .before .seen2 .given .1)
 
-pub count-code-spec : {M : Type 1} → statement M
-count-code-spec =
+pub view-count-code-spec : {M : Type 1} → statement M
+view-count-code-spec =
     tie.close
     (tie.spec
     enum-known-seen
