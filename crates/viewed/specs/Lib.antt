@@ -7,3 +7,4 @@ pub mod Example
 pub mod Stands
 pub mod Answers
 pub mod Proved
+pub mod Unrefused

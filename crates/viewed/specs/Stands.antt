@@ -27,6 +27,17 @@ use Rattle.viewed.specs.Numbered.{Label, Place, Row, place, empty, from,
 abbrev labelled : ℕ → Fields → Label
 labelled n w = record { number = n; first = w .first; end = w .end; source = w .payload }
 
+-- Where next siblings rise a node of a kind that there is can be looked at.
+pub looks : (ns : List ℕ) (count : ℕ) → count ≤ View.count ns → ((i : ℕ) → i < count → (next ns i ≡ 0) ⊎ (i < next ns i)) → (n : ℕ) → n < count → nodeAt ns n .kind ≤ Node.Error → look ns n ≡ is (nodeAt ns n)
+looks ns count fits rises n l k = go (rises n l)
+  where
+    same : nodeAt ns n .next ≡ next ns n
+    same = getD-drop (nodeWidth * n) ns nextWord 0
+
+    go : (next ns n ≡ 0) ⊎ (n < next ns n) → look ns n ≡ is (nodeAt ns n)
+    go (inl z) = sym (looked ns n (omega arith) (nodeAt ns n) refl _ (last n (nodeAt ns n) k (same ∙ z)))
+    go (inr h) = sym (looked ns n (omega arith) (nodeAt ns n) refl _ (next-rises n (nodeAt ns n) k (omega (arith, same)) (omega (arith, same))))
+
 -- ---- what says flags is the payload itself
 
 abbrev NoFlags : Option Value → Type 0
@@ -110,17 +121,6 @@ module _ (text tokens values ns : List ℕ) where
   parts (known e a b) = (e, a, b)
 
   module _ (count : ℕ) (fits : count ≤ View.count ns) (rises : (i : ℕ) → i < count → (next ns i ≡ 0) ⊎ (i < next ns i)) where
-    -- A node of a kind that there is can be looked at.
-    looks : (n : ℕ) → n < count → nodeAt ns n .kind ≤ Node.Error → look ns n ≡ is (nodeAt ns n)
-    looks n l k = go (rises n l)
-      where
-        same : nodeAt ns n .next ≡ next ns n
-        same = getD-drop (nodeWidth * n) ns nextWord 0
-
-        go : (next ns n ≡ 0) ⊎ (n < next ns n) → look ns n ≡ is (nodeAt ns n)
-        go (inl z) = sym (looked ns n (omega arith) (nodeAt ns n) refl _ (last n (nodeAt ns n) k (same ∙ z)))
-        go (inr h) = sym (looked ns n (omega arith) (nodeAt ns n) refl _ (next-rises n (nodeAt ns n) k (omega (arith, same)) (omega (arith, same))))
-
     -- What is joined is a place.
     joins : {b n : ℕ} (x : Option Value) (y z : Option Trees) {t : Trees} → n < count → Known t → says n ≡ x → Leads b (nodeAt ns n .child) y → Leads b (nodeAt ns n .next) z → joined (nodeAt ns n .kind) x y z ≡ Option.some t → PlaceOf (suc b) n t
     unfolding joined bare bareFrom
@@ -129,7 +129,7 @@ module _ (text tokens values ns : List ℕ) where
         let (k, a, b) = parts (rw same at ks) in
         let (r, f, h) = down cs a refl in
         let (u, g, i) = along us b refl in
-        (place (labelled n (nodeAt ns n)) (nodeAt ns n .kind) v r u, rw (f, g, same), refl, stands (looks n l (leb-true _ _ k)) refl refl s h i)
+        (place (labelled n (nodeAt ns n)) (nodeAt ns n .kind) v r u, rw (f, g, same), refl, stands (looks ns count fits rises n l (leb-true _ _ k)) refl refl s h i)
     joins (Option.some v) (Option.some cs) Option.none l ks s down along e = absurd (let z : _≡_ {A = ℕ} 0 1 = cc in omega arith)
     joins (Option.some v) Option.none z l ks s down along e = absurd (let z : _≡_ {A = ℕ} 0 1 = cc in omega arith)
     joins Option.none y z l ks s down along e = absurd (let z : _≡_ {A = ℕ} 0 1 = cc in omega arith)
