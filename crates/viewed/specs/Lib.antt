@@ -4,6 +4,7 @@ pub mod Viewed
 pub mod Questions
 pub mod Table
 pub mod Example
+pub mod Looks
 pub mod Stands
 pub mod Answers
 pub mod Proved

@@ -1,57 +1,24 @@
 -- No view refuses on words in which every counted node is sound, and so on the words that reading leaves of any text.
-use mathlib.Core.Path.{_≡_, refl, sym, _∙_, ap}
-use mathlib.Core.Logic.{_⊎_, inl, inr}
+use mathlib.Core.Path.{refl}
 use mathlib.Core.Bool.{Bool, true, false, cond}
-use mathlib.Core.List.{List, [], _∷_}
-use Prim.Native.Nat.{ℕ, zero, suc, _+_, _-_, _*_, _≤_, _<_}
-use native.Mathlib.Omega.{arith}
+use mathlib.Core.List.{List}
+use Prim.Native.Nat.{ℕ, zero, suc, _+_, _-_, _<_}
 use lib.Dec.{eqb}
-use lib.ListN.{getD}
-use lib.Seq.{getD-drop}
 use Rattle.words.specs.Node
-use Rattle.words.specs.Answer.{Answer, done, refused}
-use Rattle.words.specs.Words.{nodeWidth, nodeKind}
 use Rattle.words.specs.declared.node.Node.{Node as Fields}
-use Rattle.lexer.specs.Lex.{lexed, lexedWords}
-use Rattle.definition.specs.Prog.{headWord, nextWord, childWord}
-use Rattle.definition.specs.Encodes.{next}
-use Rattle.rising.specs.Sound.{Sound, Next}
-use Rattle.rising.specs.Sound as Rising
-use Rattle.rising.specs.Parsed.{parsed-sound}
-use Rattle.reader.specs.Read.{Lent, after, parsing, afterLexing, reads}
+use Rattle.rising.specs.Sound.{Sound}
+use Rattle.reader.specs.Read.{Lent, reads}
 use Rattle.looking.specs.View
 use Rattle.looking.specs.View.{Seen, is, none, andThen, orElse, look, nodeAt, among, noStop, turns}
 use Rattle.expr.specs.Expr
 use Rattle.viewed.specs.Query.{Sort, node, number, Query, OnWords, seen, span-of}
 use Rattle.viewed.specs.Query as Query
 use Rattle.viewed.specs.Viewed.{Counted, Unrefused, gives, finds-none, NeverRefused}
-use Rattle.viewed.specs.Stands.{looks}
+use Rattle.viewed.specs.Looks.{looked, child-inside, next-inside, reads-sound}
 
 module _ (ns : List ℕ) (count : ℕ) (sound : Sound ns count) where
   abbrev Fine : (s : Sort) → Seen (OnWords s) → Type 0
   Fine s x = Unrefused count s x
-
-  rising : (i : ℕ) → i < count → (next ns i ≡ 0) ⊎ (i < next ns i)
-  rising i l = go (sound .nexts i l)
-    where
-      go : Next i count (next ns i) → (next ns i ≡ 0) ⊎ (i < next ns i)
-      go (Rising.last e) = inl e
-      go (Rising.rises h g) = inr h
-
-  looked : (n : ℕ) → n < count → look ns n ≡ is (nodeAt ns n)
-  looked n l =
-      let e : nodeAt ns n .kind ≡ nodeKind (getD ns (nodeWidth * n + headWord) 0) = ap nodeKind (getD-drop (nodeWidth * n) ns headWord 0) in
-      looks ns count (omega (arith, sound .room)) rising n l (rw e (sound .kinds n l))
-
-  child-inside : (n : ℕ) → n < count → nodeAt ns n .child < count
-  child-inside n l = rw (getD-drop (nodeWidth * n) ns childWord 0) (sound .firsts n l)
-
-  next-inside : (n : ℕ) → n < count → nodeAt ns n .next < count
-  next-inside n l = rw (getD-drop (nodeWidth * n) ns nextWord 0) (go (sound .nexts n l))
-    where
-      go : Next n count (next ns n) → next ns n < count
-      go (Rising.last e) = omega arith
-      go (Rising.rises h g) = g
 
   then-fine : {r s : Sort} {x : Seen (OnWords r)} (f : OnWords r → Seen (OnWords s)) → Fine r x → ((a : OnWords r) → Counted count r a → Fine s (f a)) → Fine s (andThen x f)
   unfolding andThen
@@ -69,11 +36,11 @@ module _ (ns : List ℕ) (count : ℕ) (sound : Sound ns count) where
 
   look-fine : {s : Sort} (n : ℕ) (f : Fields → Seen (OnWords s)) → n < count → Fine s (f (nodeAt ns n)) → Fine s (andThen (look ns n) f)
   unfolding andThen
-  look-fine n f l k = rw (looked n l) k
+  look-fine n f l k = rw (looked ns count sound n l) k
 
   of-fine : {s : Sort} (first last n : ℕ) (f : Fields → Seen (OnWords s)) → n < count → Fine s (f (nodeAt ns n)) → Fine s (andThen (View.of first last ns n) f)
   unfolding andThen View.of
-  of-fine {s} first last n f l k = rw (looked n l) (go (among first last (nodeAt ns n .kind)))
+  of-fine {s} first last n f l k = rw (looked ns count sound n l) (go (among first last (nodeAt ns n .kind)))
     where
       go : (t : Bool) → Fine s (andThen (cond t (is (nodeAt ns n)) none) f)
       go true = k
@@ -86,20 +53,20 @@ module _ (ns : List ℕ) (count : ℕ) (sound : Sound ns count) where
     nth-fine (suc t) n i l =
         choose-fine (eqb n 0) (finds-none refl)
         (look-fine n _ l (choose-fine (eqb (nodeAt ns n .kind) stop) (finds-none refl)
-        (choose-fine (among low high (nodeAt ns n .kind)) (choose-fine (eqb i 0) (gives n l refl) (nth-fine t (nodeAt ns n .next) (i - 1) (next-inside n l))) (nth-fine t (nodeAt ns n .next) i (next-inside n l)))))
+        (choose-fine (among low high (nodeAt ns n .kind)) (choose-fine (eqb i 0) (gives n l refl) (nth-fine t (nodeAt ns n .next) (i - 1) (next-inside ns count sound n l))) (nth-fine t (nodeAt ns n .next) i (next-inside ns count sound n l)))))
 
     count-fine : (t n sum : ℕ) → n < count → Fine number (View.counted t stop low high ns n sum)
     unfolding View.counted
     count-fine zero n sum l = gives sum tt refl
     count-fine (suc t) n sum l =
         choose-fine (eqb n 0) (gives sum tt refl)
-        (look-fine n _ l (choose-fine (eqb (nodeAt ns n .kind) stop) (gives sum tt refl) (count-fine t (nodeAt ns n .next) (cond (among low high (nodeAt ns n .kind)) (sum + 1) sum) (next-inside n l))))
+        (look-fine n _ l (choose-fine (eqb (nodeAt ns n .kind) stop) (gives sum tt refl) (count-fine t (nodeAt ns n .next) (cond (among low high (nodeAt ns n .kind)) (sum + 1) sum) (next-inside ns count sound n l))))
 
   peel-fine : (t n : ℕ) → n < count → Fine node (Expr.peel t ns n)
   unfolding Expr.peel
   peel-fine zero n l = finds-none refl
   peel-fine (suc t) n l =
-      look-fine n _ l (choose-fine (eqb (nodeAt ns n .kind) Node.ParenExpr) (choose-fine (eqb (nodeAt ns n .child) 0) (finds-none refl) (peel-fine t (nodeAt ns n .child) (child-inside n l))) (gives n l refl))
+      look-fine n _ l (choose-fine (eqb (nodeAt ns n .kind) Node.ParenExpr) (choose-fine (eqb (nodeAt ns n .child) 0) (finds-none refl) (peel-fine t (nodeAt ns n .child) (child-inside ns count sound n l))) (gives n l refl))
 
   -- All questions, one by one.
   pub unrefused : {s : Sort} (q : Query s) (o n : ℕ) → o < count → n < count → Fine s (seen ns q o n)
@@ -112,10 +79,10 @@ module _ (ns : List ℕ) (count : ℕ) (sound : Sound ns count) where
   unrefused (Query.kind first last) o n g l = of-fine first last n _ l (gives _ tt refl)
   unrefused (Query.payload first last) o n g l = of-fine first last n _ l (gives _ tt refl)
   unrefused (Query.span first last) o n g l = of-fine first last n _ l (gives _ tt refl)
-  unrefused (Query.nth first last stop low high i) o n g l = of-fine first last n _ l (nth-fine stop low high (turns ns) _ i (child-inside n l))
-  unrefused (Query.count first last stop low high) o n g l = of-fine first last n _ l (count-fine stop low high (turns ns) _ 0 (child-inside n l))
-  unrefused (Query.nthAfter low high i) o n g l = look-fine n _ l (nth-fine noStop low high (turns ns) _ i (next-inside n l))
-  unrefused (Query.countAfter low high) o n g l = look-fine n _ l (count-fine noStop low high (turns ns) _ 0 (next-inside n l))
+  unrefused (Query.nth first last stop low high i) o n g l = of-fine first last n _ l (nth-fine stop low high (turns ns) _ i (child-inside ns count sound n l))
+  unrefused (Query.count first last stop low high) o n g l = of-fine first last n _ l (count-fine stop low high (turns ns) _ 0 (child-inside ns count sound n l))
+  unrefused (Query.nthAfter low high i) o n g l = look-fine n _ l (nth-fine noStop low high (turns ns) _ i (next-inside ns count sound n l))
+  unrefused (Query.countAfter low high) o n g l = look-fine n _ l (count-fine noStop low high (turns ns) _ 0 (next-inside ns count sound n l))
   unrefused Query.peel o n g l = peel-fine (turns ns) n l
   unrefused (Query.byKind f) o n g l = look-fine n _ l (unrefused (f (nodeAt ns n .kind)) o n g l)
   unrefused (Query.then q r) o n g l = then-fine _ (unrefused q o n g l) (λ m h. unrefused r n m l h)
@@ -124,23 +91,6 @@ module _ (ns : List ℕ) (count : ℕ) (sound : Sound ns count) where
   unrefused (Query.else q r) o n g l = else-fine (unrefused q o n g l) (unrefused r o n g l)
   unrefused (Query.choose t q r) o n g l = choose-fine t (unrefused q o n g l) (unrefused r o n g l)
   unrefused (Query.joined q r) o n g l = then-fine _ (unrefused q o n g l) (λ a h. then-fine _ (unrefused r o n g l) (λ b i. gives (span-of a b) tt refl))
-
--- What reading leaves of any text is sound.
-reads-sound : (text : List ℕ) (lent : Lent) {tokens nodes values reports : ℕ} → reads text lent .answer ≡ done (tokens ∷ nodes ∷ values ∷ reports ∷ []) → Sound (reads text lent .nodes) nodes
-unfolding reads afterLexing after
-reads-sound text lent {tokens} {nodes} {values} {reports} = lexing (lexed text (lent .tokens))
-  where
-    words : List ℕ
-    words = lexedWords text (lent .tokens)
-
-    parsed-to : (n : ℕ) (y : Answer) → parsing text lent words n .answer ≡ y → after lent words n (parsing text lent words n) y .answer ≡ done (tokens ∷ nodes ∷ values ∷ reports ∷ [])
-        → Sound (after lent words n (parsing text lent words n) y .nodes) nodes
-    parsed-to n (done counts) p q = let c : counts ≡ nodes ∷ values ∷ reports ∷ [] = cc in parsed-sound text _ (lent .nodes) (lent .values) (lent .reports) (p ∙ ap done c)
-    parsed-to n (refused k place) p q = absurd (let z : _≡_ {A = ℕ} 0 1 = cc in omega arith)
-
-    lexing : (x : Answer) → afterLexing text lent words x .answer ≡ done (tokens ∷ nodes ∷ values ∷ reports ∷ []) → Sound (afterLexing text lent words x .nodes) nodes
-    lexing (refused k place) q = absurd (let z : _≡_ {A = ℕ} 0 1 = cc in omega arith)
-    lexing (done counts) q = parsed-to (getD counts 0 0) (parsing text lent words (getD counts 0 0) .answer) refl q
 
 -- On words that reading made of any text no view refuses.
 pub never-refused : (text : List ℕ) (lent : Lent) → NeverRefused (reads text lent)
