@@ -2,6 +2,8 @@
 ghost use mathlib.Core.Path.{_≡_};
 ghost use mathlib.Core.Option.{some};
 ghost use mathlib.Core.Bool.{_&&_};
+ghost use Prim.Native.Nat.{_+_};
+ghost use Rattle.words.specs.Flag;
 ghost use Rattle.definition.specs.Nodes.{flag};
 ghost use Rattle.definition.specs.Expressions.{allowsStructLiteral, binaries, binary, binaryOf, unaryOf};
 ghost use Rattle.definition.specs.Statements.{requiresSemi, letFlags};
@@ -68,6 +70,16 @@ pub fn flag(set: bool, bit: u32) -> u32
         return bit;
     }
     0
+}
+
+// The flags of an import of all.
+pub fn glob_flags(public: bool) -> u32
+    ensures { λ r. ⌜ r ≡ flag public Flag.ImportDecl-public + Flag.ImportDecl-glob ⌝ }
+{
+    if public {
+        return flag::IMPORT_DECL_PUBLIC + flag::IMPORT_DECL_GLOB;
+    }
+    flag::IMPORT_DECL_GLOB
 }
 
 // The prefix operator that a token is.

@@ -7,7 +7,7 @@ use Rattle.words.specs.Node
 use Rattle.looking.specs.View.{Seen, is, none, andThen, orElse, look, turns, kept, newOf, childOf, nameOf, newChild, flagOf}
 
 -- `Expr::new`, its loop: "ParenExpr nodes are transparently peeled". A first child may be any node, so brackets may stand in a ring:
--- after as many peels as there are nodes the answer is none.
+-- after as many peels as there are nodes the answer is none, and more peels never give another (`Rings`).
 unfoldable pub peel : ℕ → List ℕ → ℕ → Seen ℕ
 peel zero ns n = none
 peel (suc turns) ns n =

@@ -1,2 +1,3 @@
 pub mod Expr
 pub mod Laws
+pub mod Rings

@@ -1,10 +1,7 @@
 // Imports: `parse_import_decl` of parser/mod.rs.
 ghost use mathlib.Core.Path.{_≡_};
 ghost use mathlib.Core.Option.{none};
-ghost use Prim.Native.Nat.{_+_};
-ghost use Rattle.words.specs.Flag;
 ghost use Rattle.definition.specs.Prog.{Loop, memory};
-ghost use Rattle.definition.specs.Nodes.{flag};
 ghost use Rattle.definition.specs.Declarations.{globImport, groupImport, importTurn, importAs, parseImportDecl};
 ghost use Rattle.reading.specs.Does.{Does};
 ghost use Rattle.cst.specs.Cst.{maybe};
@@ -34,26 +31,6 @@ struct ImportTurn {
     pub at: Reading,
 }
 
-// What a flag adds to a payload.
-fn flag_if(set: bool, bit: u32) -> u32
-    ensures { λ r. ⌜ r ≡ flag set bit ⌝ }
-{
-    if set {
-        return bit;
-    }
-    0
-}
-
-// The flags of an import of all.
-fn glob_flags(public: bool) -> u32
-    ensures { λ r. ⌜ r ≡ flag public Flag.ImportDecl-public + Flag.ImportDecl-glob ⌝ }
-{
-    if public {
-        return flag::IMPORT_DECL_PUBLIC + flag::IMPORT_DECL_GLOB;
-    }
-    flag::IMPORT_DECL_GLOB
-}
-
 fn glob_import(
     d: u32,
     s: Reading,
@@ -77,7 +54,7 @@ fn glob_import(
         reports,
         path,
         node::IMPORT_DECL,
-        glob_flags(public),
+        answers::glob_flags(public),
     );
     let closed = stream::expect(
         d,
@@ -112,7 +89,7 @@ fn group_import(
 ) -> ImportTurn
     ensures { λ r. ⌜ Does (now (text .entry)) (now (tokens .entry)) d (groupImport public path) s (memory (now (nodes .entry)) (now (values .entry)) (now (reports .entry))) (turnTo (r .on) (soFar (r .path) (maybe (r .whole)))) (r .at) (memory (now (nodes .exit)) (now (values .exit)) (now (reports .exit))) ⌝ }
 {
-    let flags = flag_if(public, flag::IMPORT_GROUP_DECL_PUBLIC);
+    let flags = answers::flag(public, flag::IMPORT_GROUP_DECL_PUBLIC);
     let changed = cst::update_kind(
         d,
         s,
@@ -326,7 +303,7 @@ fn as_decl(
 ) -> Got
     ensures { λ r. ⌜ Does (now (text .entry)) (now (tokens .entry)) d (asDecl start public path) s (memory (now (nodes .entry)) (now (values .entry)) (now (reports .entry))) (r .it) (r .at) (memory (now (nodes .exit)) (now (values .exit)) (now (reports .exit))) ⌝ }
 {
-    let flags = flag_if(public, flag::IMPORT_AS_DECL_PUBLIC);
+    let flags = answers::flag(public, flag::IMPORT_AS_DECL_PUBLIC);
     let import = cst::open_from(
         d,
         s,
@@ -487,7 +464,7 @@ pub fn parse_import_decl(
 ) -> Got
     ensures { λ r. ⌜ Does (now (text .entry)) (now (tokens .entry)) d (parseImportDecl start public) s (memory (now (nodes .entry)) (now (values .entry)) (now (reports .entry))) (r .it) (r .at) (memory (now (nodes .exit)) (now (values .exit)) (now (reports .exit))) ⌝ }
 {
-    let flags = flag_if(public, flag::IMPORT_DECL_PUBLIC);
+    let flags = answers::flag(public, flag::IMPORT_DECL_PUBLIC);
     let opened = cst::open_from(
         d,
         s,

@@ -1,8 +1,9 @@
 -- Laws of the definitions in `View`.
-use mathlib.Core.Path.{_≡_, refl, sym, ap, _∙_}
+use mathlib.Core.Path.{_≡_, refl, ap, _∙_}
 use mathlib.Core.Bool.{Bool, true, false, cond}
 use mathlib.Core.List.{List}
-use Prim.Native.Nat.{ℕ, zero, suc, _+_, _-_, _*_, _/_, _≤_, _<_}
+use Prim.Native.Nat.{ℕ, zero, suc, _+_, _-_, _≤_, _<_}
+use native.Mathlib.Nat.{suc-add}
 use native.Mathlib.Omega.{arith}
 use lib.Dec.{eqb, ltb, leb}
 use borrow.Author.Tests.{eqb-true, eqb-false, ltb-true, ltb-false, leb-true, leb-false, le-leb, lt-leb, le-ltb, lt-ltb, eq-eqb, ne-eqb}
@@ -273,24 +274,49 @@ module _ (ns : List ℕ) where
   pub ends : (at : ℕ) → Ends ns (turns ns) at
   ends at = rising (turns ns) at (omega arith) (omega arith)
 
+  -- The first lines of `nth` and `counted`, for no turns, are never asked: whatever has the second line gives the same answer.
   module _ (stop from to : ℕ) where
-    nth-more : (k at : ℕ) → Ends ns k at → (j i : ℕ) → k ≤ j → nth j stop from to ns at i ≡ nth k stop from to ns at i
-    unfolding nth andThen
-    nth-more (suc k) at w zero i h = absurd (omega arith)
-    nth-more (suc k) at (over _) (suc j) i h = refl
-    nth-more (suc k) at (altered _ _ number place e) (suc j) i h = rw (← e)
-    nth-more (suc k) at (goes _ _ f e w) (suc j) i h = rw (← e, nth-more k (f .next) w j (i - 1) (omega arith), nth-more k (f .next) w j i (omega arith))
+    abbrev pub Nth : (ℕ → ℕ → ℕ → Seen ℕ) → Type 0
+    Nth g =
+        (k at i : ℕ) → g (suc k) at i
+        ≡ cond (eqb at 0) none
+        (andThen (look ns at) (λ node.
+        cond (eqb (node .kind) stop) none
+        (cond (among from to (node .kind))
+        (cond (eqb i 0) (is at) (g k (node .next) (i - 1)))
+        (g k (node .next) i))))
 
-    counted-more : (k at : ℕ) → Ends ns k at → (j sum : ℕ) → k ≤ j → counted j stop from to ns at sum ≡ counted k stop from to ns at sum
+    nth-same : (g : ℕ → ℕ → ℕ → Seen ℕ) → Nth g → (k at : ℕ) → Ends ns k at → (i : ℕ) → g k at i ≡ nth k stop from to ns at i
+    unfolding nth andThen
+    nth-same g line (suc k) at (over _) i = line k at i
+    nth-same g line (suc k) at (altered _ _ number place e) i = line k at i ∙ rw (← e)
+    nth-same g line (suc k) at (goes _ _ f e w) i = line k at i ∙ rw (← e, nth-same g line k (f .next) w (i - 1), nth-same g line k (f .next) w i)
+
+    pub nth-only : (g : ℕ → ℕ → ℕ → Seen ℕ) → Nth g → (at i : ℕ) → g (turns ns) at i ≡ nth (turns ns) stop from to ns at i
+    nth-only g line at i = nth-same g line (turns ns) at (ends at) i
+
+    abbrev pub Counted : (ℕ → ℕ → ℕ → Seen ℕ) → Type 0
+    Counted g =
+        (k at sum : ℕ) → g (suc k) at sum
+        ≡ cond (eqb at 0) (is sum)
+        (andThen (look ns at) (λ node.
+        cond (eqb (node .kind) stop) (is sum)
+        (g k (node .next) (cond (among from to (node .kind)) (sum + 1) sum))))
+
+    counted-same : (g : ℕ → ℕ → ℕ → Seen ℕ) → Counted g → (k at : ℕ) → Ends ns k at → (sum : ℕ) → g k at sum ≡ counted k stop from to ns at sum
     unfolding counted andThen
-    counted-more (suc k) at w zero sum h = absurd (omega arith)
-    counted-more (suc k) at (over _) (suc j) sum h = refl
-    counted-more (suc k) at (altered _ _ number place e) (suc j) sum h = rw (← e)
-    counted-more (suc k) at (goes _ _ f e w) (suc j) sum h = rw (← e, counted-more k (f .next) w j _ (omega arith))
+    counted-same g line (suc k) at (over _) sum = line k at sum
+    counted-same g line (suc k) at (altered _ _ number place e) sum = line k at sum ∙ rw (← e)
+    counted-same g line (suc k) at (goes _ _ f e w) sum = line k at sum ∙ rw (← e, counted-same g line k (f .next) w _)
+
+    pub counted-only : (g : ℕ → ℕ → ℕ → Seen ℕ) → Counted g → (at sum : ℕ) → g (turns ns) at sum ≡ counted (turns ns) stop from to ns at sum
+    counted-only g line at sum = counted-same g line (turns ns) at (ends at) sum
 
     -- so any more turns give the same answer
-    pub nth-enough : (at i j : ℕ) → turns ns ≤ j → nth j stop from to ns at i ≡ nth (turns ns) stop from to ns at i
-    nth-enough at i j h = nth-more (turns ns) at (ends at) j i h
+    pub nth-enough : (at i more : ℕ) → nth (turns ns + more) stop from to ns at i ≡ nth (turns ns) stop from to ns at i
+    unfolding nth
+    nth-enough at i more = nth-only (λ k at i. nth (k + more) stop from to ns at i) (λ k at i. rw suc-add) at i
 
-    pub counted-enough : (at sum j : ℕ) → turns ns ≤ j → counted j stop from to ns at sum ≡ counted (turns ns) stop from to ns at sum
-    counted-enough at sum j h = counted-more (turns ns) at (ends at) j sum h
+    pub counted-enough : (at sum more : ℕ) → counted (turns ns + more) stop from to ns at sum ≡ counted (turns ns) stop from to ns at sum
+    unfolding counted
+    counted-enough at sum more = counted-only (λ k at sum. counted (k + more) stop from to ns at sum) (λ k at sum. rw suc-add) at sum

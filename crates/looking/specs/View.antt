@@ -1,5 +1,5 @@
 -- What a look at node words tells, whatever the words are (01, Refusals, "Whoever alters node words").
-use mathlib.Core.Bool.{Bool, true, false, cond, not, _&&_}
+use mathlib.Core.Bool.{Bool, cond, not, _&&_}
 use mathlib.Core.List.{List}
 use Prim.Native.Nat.{ℕ, zero, suc, _+_, _-_, _*_, _/_, _%_}
 use lib.Dec.{eqb, leb, ltb}
@@ -90,7 +90,7 @@ among from to kind = leb from kind && leb kind to
 
 -- `children().filter(..).nth(i)` from a sibling on: the i-th of those whose kind is among the wanted, up to the first whose kind is
 -- `stop`. Each is looked at, and a next sibling is above its own node, so no row of siblings has more nodes than there are: `turns` of
--- one more than that never run out, and the first line is never asked (`ends` of `Laws`).
+-- one more than that never run out, and the first line is never asked (`nth-only` of `Laws`).
 unfoldable pub nth : ℕ → ℕ → ℕ → ℕ → List ℕ → ℕ → ℕ → Seen ℕ
 nth zero stop from to ns at i = none
 nth (suc turns) stop from to ns at i =

@@ -1,7 +1,6 @@
 // A look at node words: any words, any node number. The answer is the thing, none, or refusal 8 where words that are looked at were altered.
 ghost use mathlib.Core.Path.{_≡_};
 ghost use Prim.Native.Nat.{_+_, _*_, _<_};
-ghost use lib.ListN.{length};
 ghost use Rattle.looking.specs.View.{answer, fields, found, counts, spans, count, nodeAt, look, nth, counted, turns};
 ghost use Rattle.looking.specs.View.{of, kept, nthOf, countOf, payloadOf, newOf, nameOf, innerOf, innerCount, newChild};
 ghost use Rattle.looking.specs.View.{spanOf, spanChild, kindOf, flagOf, payloadChild};

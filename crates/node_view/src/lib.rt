@@ -1,7 +1,9 @@
 // A view of a node, which keeps the node words it looks at (`NodeView` of cst/mod.rs). Each function takes it apart and asks crate looking.
 ghost use mathlib.Core.Path.{_≡_};
-ghost use Rattle.looking.specs.View.{answer, spans, ident};
-ghost use Rattle.looking.specs.Any.{kind, span, child};
+ghost use Rattle.looking.specs.View.{answer, spans, counts, ident, nameOf};
+ghost use Rattle.words.specs.Node;
+ghost use Rattle.looking.specs.Any.{kind, span, child, childCount};
+use looking::Count;
 use looking::Spanned;
 use looking::View;
 use looking::any;
@@ -50,6 +52,13 @@ impl<'a> NodeView<'a> {
         any::child(self.nodes, self.n, i)
     }
 
+    // `NodeView::children`, counted.
+    pub fn child_count(self) -> Count
+        ensures { λ r. ⌜ counts r ≡ childCount (now (self .entry .nodes)) (self .entry .n) ⌝ }
+    {
+        any::child_count(self.nodes, self.n)
+    }
+
     // `NodeView::ident`.
     pub fn ident(self) -> View
         ensures { λ r. ⌜ answer r ≡ ident (now (self .entry .nodes)) (self .entry .n) ⌝ }
@@ -63,4 +72,22 @@ pub fn child_at(nodes: &[u32], n: u32, i: u32) -> View
     ensures { λ r. ⌜ answer r ≡ child i (now (nodes .entry)) n ⌝ }
 {
     NodeView::new(nodes, n).child(i)
+}
+
+// The name that another node is, by a view that moves there.
+fn ident_at(nodes: &[u32], n: u32, c: u32) -> View
+    ensures { λ r. ⌜ answer r ≡ ident (now (nodes .entry)) c ⌝ }
+{
+    NodeView::new(nodes, n).at(c).ident()
+}
+
+// `child(i).and_then(NodeView::ident)`: a caller with no view of its own, which the borrow checker covers.
+pub fn child_ident(nodes: &[u32], n: u32, i: u32) -> View
+    ensures { λ r. ⌜ answer r ≡ nameOf Node.File Node.Error i (now (nodes .entry)) n ⌝ }
+{
+    match child_at(nodes, n, i) {
+        View::None => View::None,
+        View::Refused(place) => View::Refused(place),
+        View::Is(c) => ident_at(nodes, n, c),
+    }
 }

@@ -1,4 +1,4 @@
-// The library: reading a script, and lexing it for programs in C and Rust, in plain numbers and slices.
+// The library: reading a script, and lexing it.
 ghost use mathlib.Core.Path.{_≡_};
 ghost use mathlib.Core.List.{[], _∷_};
 ghost use Prim.Native.Nat.{_≤_};
@@ -7,7 +7,6 @@ ghost use Rattle.words.specs.Answer.{done};
 ghost use Rattle.lexer.specs.Lex.{answer, lexed, lexedWords};
 ghost use Rattle.reader.specs.Read.{afterLexing, reads};
 ghost use Rattle.reader.specs.Demand.{Agrees};
-ghost use Rattle.plank.specs.Coded.{coded};
 ghost use Rattle.plank.specs.Reads.{given, lent};
 use lexer::Lexed;
 use parser::Parsed;
@@ -66,15 +65,4 @@ pub fn lex(text: &[u8], tokens: &mut [u32]) -> Lexed
     ensures { λ r. ⌜ (answer r ≡ lexed (now (text .entry)) (length (now (tokens .entry)))) × (now (tokens .exit) ≡ lexedWords (now (text .entry)) (length (now (tokens .entry)))) ⌝ }
 {
     lexer::lex(text, tokens)
-}
-
-// `lex`, its answer as one number: the number of tokens, or a refusal's number times 2 to the 32nd and its place.
-#[no_mangle]
-pub extern "C" fn plank_lex(text: &[u8], tokens: &mut [u32]) -> u64
-    ensures { λ r. ⌜ (r ≡ coded (lexed (now (text .entry)) (length (now (tokens .entry))))) × (now (tokens .exit) ≡ lexedWords (now (text .entry)) (length (now (tokens .entry)))) ⌝ }
-{
-    match lexer::lex(text, tokens) {
-        Lexed::Tokens(n) => n as u64,
-        Lexed::Refused(number, place) => (number as u64) * 4294967296 + place as u64,
-    }
 }

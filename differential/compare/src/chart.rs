@@ -5,7 +5,7 @@ mod places;
 use crate::{
     library,
     options::LexOptions,
-    parse::{Answer, Lent},
+    read::{Answer, Lent},
     run::shown,
 };
 use derive::{Chart, Reading, kind_of};
@@ -178,5 +178,5 @@ fn is_plain(spelling: &str) -> bool {
 fn read(text: &str) -> Answer {
     let bytes = text.len();
     let rest = Lengths { nodes: 40 * bytes + 200, values: bytes + 16, reports: 6 * bytes + 60 };
-    library::parse(text.as_bytes(), &[], Lent { tokens: Some(bytes + 1), rest })
+    library::read(text.as_bytes(), Lent { tokens: bytes + 1, rest })
 }

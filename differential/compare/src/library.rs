@@ -1,24 +1,13 @@
 //! Calls of the library under test.
 
-use crate::{answer::Answer, parse, parse::Lent as Lengths};
+use crate::{
+    answer::Answer,
+    read,
+    read::{COUNTS, Lent as Lengths},
+};
 
 unsafe extern "C" {
     fn plank_lex(text: *const u8, text_len: usize, tokens: *mut u32, tokens_len: usize) -> u64;
-
-    fn plank_parse(
-        text: *const u8,
-        text_len: usize,
-        tokens: *const u32,
-        tokens_len: usize,
-        nodes: *mut u32,
-        nodes_len: usize,
-        values: *mut u32,
-        values_len: usize,
-        reports: *mut u32,
-        reports_len: usize,
-        counts: *mut u64,
-        counts_len: usize,
-    ) -> u64;
 
     fn plank_read(
         text: *const u8,
@@ -34,6 +23,19 @@ unsafe extern "C" {
         counts: *mut u64,
         counts_len: usize,
     ) -> u64;
+
+    fn plank_view(which: u32, nodes: *const u32, nodes_len: usize, n: u32, i: u32) -> u64;
+
+    fn plank_view_count(which: u32, nodes: *const u32, nodes_len: usize, n: u32) -> u64;
+
+    fn plank_view_span(
+        which: u32,
+        nodes: *const u32,
+        nodes_len: usize,
+        n: u32,
+        span: *mut u32,
+        span_len: usize,
+    ) -> u64;
 }
 
 /// Slices are lent full of this, so that a word left as lent is seen.
@@ -47,9 +49,6 @@ const GUARD: usize = 8;
 
 /// Stands behind the text: whoever reads on gets another last token.
 const BEHIND_TEXT: &[u8] = b"x*/\"\n";
-
-/// Stands behind the tokens, the word of a `}` at the text's end: whoever reads on goes on.
-const BEHIND_TOKENS: [u32; 4] = [6 << 25 | 0xffff; 4];
 
 /// A slice to lend, between guards.
 struct Lent<W> {
@@ -93,7 +92,7 @@ pub fn lex(text: &[u8], lent: usize) -> Answer {
     }
 }
 
-/// The slices lent to `parse` and `read`.
+/// The slices lent to `read`.
 struct Slices {
     tokens: Lent<u32>,
     nodes: Lent<u32>,
@@ -105,11 +104,11 @@ struct Slices {
 impl Slices {
     fn new(lent: Lengths) -> Self {
         Slices {
-            tokens: Lent::new(lent.tokens.unwrap_or(0), FILL),
+            tokens: Lent::new(lent.tokens, FILL),
             nodes: Lent::new(lent.rest.nodes, FILL),
             values: Lent::new(lent.rest.values, FILL),
             reports: Lent::new(lent.rest.reports, FILL),
-            counts: Lent::new(lent.counts(), COUNT_FILL),
+            counts: Lent::new(COUNTS, COUNT_FILL),
         }
     }
 
@@ -118,8 +117,8 @@ impl Slices {
         words.iter().all(|lent| lent.is_kept()) && self.counts.is_kept()
     }
 
-    fn answer(self, packed: u64, is_text_kept: bool) -> parse::Answer {
-        parse::Answer {
+    fn answer(self, packed: u64, is_text_kept: bool) -> read::Answer {
+        read::Answer {
             number: (packed >> 32) as u32,
             place: packed as u32,
             stayed_inside: self.is_kept() && is_text_kept,
@@ -132,36 +131,11 @@ impl Slices {
     }
 }
 
-/// Lexes the text itself where words are lent for tokens, and is given the tokens otherwise.
-pub fn parse(text: &[u8], tokens: &[u32], lent: Lengths) -> parse::Answer {
+pub fn read(text: &[u8], lent: Lengths) -> read::Answer {
     let memory = [text, BEHIND_TEXT].concat();
     let mut slices = Slices::new(lent);
-    let packed = match lent.tokens {
-        Some(_) => call_read(&memory, text.len(), &mut slices),
-        None => call_parse(&memory, text.len(), &[tokens, &BEHIND_TOKENS].concat(), &mut slices),
-    };
+    let packed = call_read(&memory, text.len(), &mut slices);
     slices.answer(packed, memory.ends_with(BEHIND_TEXT) && memory.starts_with(text))
-}
-
-fn call_parse(text: &[u8], text_len: usize, tokens: &[u32], slices: &mut Slices) -> u64 {
-    let Slices { nodes, values, reports, counts, .. } = slices;
-    // Safety: all pointers and lengths are those of live slices, the last four unshared.
-    unsafe {
-        plank_parse(
-            text.as_ptr(),
-            text_len,
-            tokens.as_ptr(),
-            tokens.len() - BEHIND_TOKENS.len(),
-            nodes.slice().as_mut_ptr(),
-            nodes.length,
-            values.slice().as_mut_ptr(),
-            values.length,
-            reports.slice().as_mut_ptr(),
-            reports.length,
-            counts.slice().as_mut_ptr(),
-            counts.length,
-        )
-    }
 }
 
 fn call_read(text: &[u8], text_len: usize, slices: &mut Slices) -> u64 {
@@ -182,5 +156,92 @@ fn call_read(text: &[u8], text_len: usize, slices: &mut Slices) -> u64 {
             counts.slice().as_mut_ptr(),
             counts.length,
         )
+    }
+}
+
+/// What a view answers.
+#[derive(Debug, Clone, Copy, PartialEq, Eq)]
+pub enum Seen {
+    Is(u32),
+    None,
+    Refused(u32),
+    /// No answer of document 01.
+    Odd(u64),
+}
+
+impl Seen {
+    pub fn of(answer: Option<u32>) -> Seen {
+        answer.map_or(Seen::None, Seen::Is)
+    }
+
+    fn unpacked(packed: u64) -> Seen {
+        let low = packed as u32;
+        match packed >> 32 {
+            0 => Seen::Is(low),
+            8 => Seen::Refused(low),
+            _ if packed == 1 << 63 => Seen::None,
+            _ => Seen::Odd(packed),
+        }
+    }
+}
+
+/// What a view of tokens answers and leaves in the lent words.
+#[derive(Debug, PartialEq, Eq)]
+pub struct Spanned {
+    /// 0 where there is an answer.
+    pub seen: Seen,
+    words: Vec<u32>,
+    stayed_inside: bool,
+}
+
+impl Spanned {
+    pub fn expected(answer: Option<[u32; 2]>, lent: usize) -> Spanned {
+        let mut words = vec![FILL; lent];
+        if let (Some(span), Some(start)) = (answer, words.get_mut(..2)) {
+            start.copy_from_slice(&span);
+        }
+        Spanned { seen: Seen::of(answer.map(|_| 0)), words, stayed_inside: true }
+    }
+}
+
+/// Stands behind the node words, a name: whoever reads on finds a node.
+const BEHIND_NODES: [u32; 5] = [36 << 26, 0, 1, 0, 0];
+
+/// Node words to look at.
+pub struct NodeWords {
+    memory: Vec<u32>,
+    words: Vec<u32>,
+}
+
+impl NodeWords {
+    pub fn new(words: &[u32]) -> Self {
+        NodeWords { memory: [words, &BEHIND_NODES].concat(), words: words.to_vec() }
+    }
+
+    /// Are they as they were?
+    pub fn is_kept(&self) -> bool {
+        self.memory.starts_with(&self.words) && self.memory.ends_with(&BEHIND_NODES)
+    }
+
+    pub fn view(&self, which: u32, n: u32, i: u32) -> Seen {
+        // Safety: pointer and length are those of a live slice.
+        let packed = unsafe { plank_view(which, self.memory.as_ptr(), self.words.len(), n, i) };
+        Seen::unpacked(packed)
+    }
+
+    pub fn view_count(&self, which: u32, n: u32) -> Seen {
+        // Safety: pointer and length are those of a live slice.
+        let packed = unsafe { plank_view_count(which, self.memory.as_ptr(), self.words.len(), n) };
+        Seen::unpacked(packed)
+    }
+
+    pub fn view_span(&self, which: u32, n: u32, lent: usize) -> Spanned {
+        let mut span = Lent::new(lent, FILL);
+        let slice = span.slice();
+        let (nodes, length) = (self.memory.as_ptr(), self.words.len());
+        // Safety: both pointers and lengths are those of live slices, the second one unshared.
+        let packed =
+            unsafe { plank_view_span(which, nodes, length, n, slice.as_mut_ptr(), slice.len()) };
+        Spanned { seen: Seen::unpacked(packed), stayed_inside: span.is_kept(), words: span.back() }
     }
 }

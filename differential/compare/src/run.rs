@@ -2,7 +2,7 @@
 
 use crate::{check::first_difference, fault::lex_with_fault, options::LexOptions, shrink::shrink};
 use generate::{Texts, short_byte_texts, short_texts, texts_around_the_limit};
-use std::{fmt::Display, process::ExitCode};
+use std::{fmt::Display, panic, process::ExitCode, thread};
 
 /// So many differing texts are kept and shown.
 const SHOWN: usize = 5;
@@ -21,6 +21,22 @@ pub fn lex(options: &LexOptions) -> ExitCode {
     run.all("short, of any bytes", short_byte_texts(), differs);
     run.show_first(difference);
     run.end()
+}
+
+/// Room for the deepest readings of both sides.
+const STACK_BYTES: usize = 1 << 28;
+
+/// A run whose reference may panic: what its panics say is counted, not printed.
+pub fn in_a_thread(run: impl FnOnce() -> ExitCode + Send) -> ExitCode {
+    panic::set_hook(Box::new(|_| {}));
+    thread::scope(|scope| {
+        let builder = thread::Builder::new().stack_size(STACK_BYTES);
+        let runner = builder.spawn_scoped(scope, run);
+        runner.expect("a thread").join().unwrap_or_else(|_| {
+            println!("the run itself panicked");
+            ExitCode::FAILURE
+        })
+    })
 }
 
 pub struct Run {
@@ -61,6 +77,10 @@ impl Run {
         if self.first.len() < SHOWN {
             self.first.push(text);
         }
+    }
+
+    pub fn texts(&self) -> usize {
+        self.texts
     }
 
     /// Prints the first few differing texts, each made as small as it can be.

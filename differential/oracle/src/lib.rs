@@ -4,6 +4,7 @@
 include!(concat!(env!("OUT_DIR"), "/modules.rs"));
 
 mod run;
+pub mod views;
 mod watch;
 mod words;
 

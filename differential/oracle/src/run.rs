@@ -110,6 +110,16 @@ pub fn run(text: &str) -> Run {
     }
 }
 
+/// The tree of a text and its words; none where the reference panics or the text is too deep.
+pub fn read_tree(text: &str) -> Option<(ConcreteSyntaxTree, Words)> {
+    let lexed = Lexed::lex(text);
+    let mut session = Session::new();
+    let watch = Rc::new(RefCell::new(Watch::default()));
+    let tree = watched(&watch, || parse(&mut session, &lexed, text, SourceId::ZERO)).ok()?;
+    let words = words_of(text, &lexed, &session, &tree);
+    Some((tree, words))
+}
+
 fn watched(
     watch: &Rc<RefCell<Watch>>,
     parse: impl FnOnce() -> ConcreteSyntaxTree,

@@ -1,7 +1,7 @@
 -- `expr_at` meets its contract.
 use mathlib.Core.Path.{_∙_}
 use native.Mathlib.Omega.{arith}
-use Rattle.looking.specs.Laws.{then-is, then-none, then-refused, look-kind}
+use Rattle.looking.specs.Laws.{then-is, then-refused, look-kind}
 use borrow.Author.Needs.{needs}
 use Rattle.expr.proofs.expr_at.Statement.{statement}
 use Rattle.expr.proofs.expr_at.Tie as tie

@@ -5,8 +5,8 @@ use borrow.Author.Needs.{needs}
 use Rattle.imports.proofs.as_decl.Statement.{statement}
 use Rattle.imports.proofs.as_decl.Tie as tie
 
-flag-if-requires : tie.Need-flag-if-requires
-flag-if-requires c κs = search needs
+flag-requires : tie.Need-flag-requires
+flag-requires c κs = search needs
 
 open-from-requires : tie.Need-open-from-requires
 open-from-requires c κs = search needs
@@ -27,13 +27,13 @@ same-length-3 : tie.Need-same-length-3
 same-length-3 c = c .before .before .before .before .before .before .as-name .kept .1 .1 .1 .1 .1 .1 .0 ∙ c .before .before .before .before .before .before .before .before .before .before .before .before .before .before .before .before .push-child .kept .1 .1 .1 .1 .1 .1 .0 ∙ c .before .before .before .before .before .before .before .before .before .before .before .before .before .before .before .before .before .before .before .before .before .before .before .before .before .before .open-from .kept .1 .1 .1 .1 .1 .1 .0
 
 returns : tie.Need-returns
-returns c = then (rw (c .before .before .before .before .before .before .before .before .before .before .before .before .before .before .before .before .before .before .before .before .before .before .before .before .before .before .before .before .before .before .flag-if .ensures) at (c .before .before .before .before .before .before .before .before .before .before .before .before .before .before .before .before .before .before .before .before .before .before .before .before .before .before .open-from .ensures)) (then (c .before .before .before .before .before .before .before .before .before .before .before .before .before .before .before .before .push-child .ensures) (c .before .before .before .before .before .before .as-name .ensures))
+returns c = then (rw (c .before .before .before .before .before .before .before .before .before .before .before .before .before .before .before .before .before .before .before .before .before .before .before .before .before .before .before .before .before .before .flag .ensures) at (c .before .before .before .before .before .before .before .before .before .before .before .before .before .before .before .before .before .before .before .before .before .before .before .before .before .before .open-from .ensures)) (then (c .before .before .before .before .before .before .before .before .before .before .before .before .before .before .before .before .push-child .ensures) (c .before .before .before .before .before .before .as-name .ensures))
 
 pub as-decl-spec : {M : Type 1} → statement M
 as-decl-spec =
     tie.close
     (tie.spec
-    flag-if-requires
+    flag-requires
     open-from-requires
     push-child-requires
     as-name-requires

@@ -6,8 +6,8 @@ use borrow.Author.Needs.{needs}
 use Rattle.imports.proofs.group_import.Statement.{statement}
 use Rattle.imports.proofs.group_import.Tie as tie
 
-flag-if-requires : tie.Need-flag-if-requires
-flag-if-requires c κs = search needs
+flag-requires : tie.Need-flag-requires
+flag-requires c κs = search needs
 
 update-kind-requires : tie.Need-update-kind-requires
 update-kind-requires c κs = search needs
@@ -26,13 +26,13 @@ same-length-3 c = c .before .before .before .before .before .before .before .par
 
 returns : tie.Need-returns
 unfolding groupImport
-returns c = then (rw (c .before .before .before .before .before .before .before .before .before .before .before .before .before .before .before .before .before .before .before .before .before .flag-if .ensures) at (c .before .before .before .before .before .before .before .before .before .before .before .before .before .before .before .before .before .update-kind .ensures)) (then (c .before .before .before .before .before .before .before .parse-import-group .ensures) gives)
+returns c = then (rw (c .before .before .before .before .before .before .before .before .before .before .before .before .before .before .before .before .before .before .before .before .before .flag .ensures) at (c .before .before .before .before .before .before .before .before .before .before .before .before .before .before .before .before .before .update-kind .ensures)) (then (c .before .before .before .before .before .before .before .parse-import-group .ensures) gives)
 
 pub group-import-spec : {M : Type 1} → statement M
 group-import-spec =
     tie.close
     (tie.spec
-    flag-if-requires
+    flag-requires
     update-kind-requires
     parse-import-group-requires
     same-length

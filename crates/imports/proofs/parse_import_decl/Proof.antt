@@ -6,8 +6,8 @@ use borrow.Author.Needs.{needs}
 use Rattle.imports.proofs.parse_import_decl.Statement.{statement}
 use Rattle.imports.proofs.parse_import_decl.Tie as tie
 
-flag-if-requires : tie.Need-flag-if-requires
-flag-if-requires c κs = search needs
+flag-requires : tie.Need-flag-requires
+flag-requires c κs = search needs
 
 open-from-requires : tie.Need-open-from-requires
 open-from-requires c κs = search needs
@@ -32,13 +32,13 @@ same-length-3 c = c .before .before .before .before .before .before .import-rest
 
 returns : tie.Need-returns
 unfolding parseImportDecl
-returns c = then (rw (c .before .before .before .before .before .before .before .before .before .before .before .before .before .before .before .before .before .before .before .before .before .before .before .before .before .before .before .before .before .before .before .before .before .before .before .before .before .before .before .before .flag-if .ensures) at (c .before .before .before .before .before .before .before .before .before .before .before .before .before .before .before .before .before .before .before .before .before .before .before .before .before .before .before .before .before .before .before .before .before .before .before .before .open-from .ensures)) (then (c .before .before .before .before .before .before .before .before .before .before .before .before .before .before .before .before .before .before .before .before .before .before .before .before .before .before .expect-ident .ensures) (then (c .before .before .before .before .before .before .before .before .before .before .before .before .before .before .before .before .push-child .ensures) (c .before .before .before .before .before .before .import-rest .ensures)))
+returns c = then (rw (c .before .before .before .before .before .before .before .before .before .before .before .before .before .before .before .before .before .before .before .before .before .before .before .before .before .before .before .before .before .before .before .before .before .before .before .before .before .before .before .before .flag .ensures) at (c .before .before .before .before .before .before .before .before .before .before .before .before .before .before .before .before .before .before .before .before .before .before .before .before .before .before .before .before .before .before .before .before .before .before .before .before .open-from .ensures)) (then (c .before .before .before .before .before .before .before .before .before .before .before .before .before .before .before .before .before .before .before .before .before .before .before .before .before .before .expect-ident .ensures) (then (c .before .before .before .before .before .before .before .before .before .before .before .before .before .before .before .before .push-child .ensures) (c .before .before .before .before .before .before .import-rest .ensures)))
 
 pub parse-import-decl-spec : {M : Type 1} → statement M
 parse-import-decl-spec =
     tie.close
     (tie.spec
-    flag-if-requires
+    flag-requires
     open-from-requires
     expect-ident-requires
     push-child-requires

@@ -1,5 +1,4 @@
 -- `kept` meets its contract.
-use mathlib.Core.Path.{refl}
 use Rattle.looking.specs.View.{andThen}
 use borrow.Author.Needs.{needs}
 use Rattle.looking.proofs.kept.Statement.{statement}

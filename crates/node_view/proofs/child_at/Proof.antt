@@ -1,4 +1,4 @@
--- `node_view::child_at` meets its contract: a walk of its MIR, by hand. A `NodeView` that one call returns is held in a local and passed to the child′. All that the proof knows of `new` and of `child` is that each meets its contract.
+-- `node_view::child_at` meets its contract: a walk of its MIR, by hand. A `NodeView` that one call returns is held in a local and passed to the next. All that the proof knows of `new` and of `child` is that each meets its contract.
 -- The machine value that `new` returns is stored and passed on as it is. In a local of a body MIR erases the lifetime of the struct's type, so the value is shown to have the type at `erased`: what the struct owns does not say the lifetime's name.
 -- Assumes nothing.
 use mathlib.Core.Path.{_≡_, refl, ap, _∙_}

@@ -45,7 +45,11 @@ pub fn watch<R>(watcher: impl FnMut(Call<'_>) + 'static, watched: impl FnOnce() 
     watched()
 }
 
+#[inline]
 pub fn tell(call: Call<'_>) {
+    if cfg!(silent) {
+        return;
+    }
     WATCHER.with_borrow_mut(|watcher| {
         if let Some(watcher) = watcher {
             watcher(call);

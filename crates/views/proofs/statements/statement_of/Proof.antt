@@ -1,5 +1,4 @@
 -- `statement_of` meets its contract.
-use mathlib.Core.Path.{_∙_}
 use borrow.Author.Tests.{ne-eqb, eq-eqb}
 use Rattle.words.specs.Node
 use Rattle.views.specs.Statements.{statementOf}

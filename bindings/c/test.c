@@ -1,0 +1,160 @@
+/* What plank.h answers, for a good text and for wrong use. Prints nothing and ends with 0, or stops at the line that fails. */
+#include "plank.h"
+
+#include <stdio.h>
+#include <stdlib.h>
+#include <string.h>
+
+#define CHECK(condition)                                                    \
+    do {                                                                    \
+        if (!(condition)) {                                                 \
+            fprintf(stderr, "%s:%d: %s\n", __FILE__, __LINE__, #condition); \
+            exit(1);                                                        \
+        }                                                                   \
+    } while (0)
+
+#define SCRIPT "const a = b - 5 - \"xyzuv\"; const c = f(a, b);"
+
+enum { LEN = sizeof SCRIPT - 1, WORDS = 4000 };
+
+static const uint8_t *const script = (const uint8_t *)SCRIPT;
+
+static uint32_t tokens[WORDS], nodes[WORDS], values[WORDS], reports[WORDS];
+
+static struct plank_words words(uint32_t *start, size_t len) {
+    struct plank_words lent;
+    lent.words = start;
+    lent.len = len;
+    return lent;
+}
+
+static uint64_t read_script(struct plank_counts *counts) {
+    return plank_checked_read(script, LEN, words(tokens, WORDS), words(nodes, WORDS), words(values, WORDS),
+                              words(reports, WORDS), counts);
+}
+
+/* The spelling of a name, or nothing where the answer is no name. */
+static int is_name(uint64_t answer, const char *name) {
+    struct plank_part part = plank_spelling(script, LEN, tokens, WORDS, (uint32_t)answer);
+    return plank_is_number(answer) && part.len == strlen(name) && memcmp(part.start, name, part.len) == 0;
+}
+
+static void test_reading(void) {
+    struct plank_counts counts;
+    CHECK(LEN <= PLANK_MAX_TEXT && plank_enough_nodes(LEN) <= WORDS);
+    CHECK(read_script(&counts) == 0);
+    CHECK(counts.reports == 0 && counts.values == 2 + 3);
+    CHECK(plank_token_kind(tokens[0]) == PLANK_TOKEN_CONST && plank_token_end(tokens[0]) == 5);
+    CHECK(plank_token_kind(tokens[counts.tokens - 1]) == PLANK_TOKEN_EOF);
+    CHECK(plank_checked_lex(script, LEN, words(tokens, WORDS)) == counts.tokens);
+    CHECK(read_script(NULL) == 0);
+}
+
+static void test_views(void) {
+    uint32_t def, outer, inner, call;
+    struct plank_token_span span;
+    struct plank_node node;
+    struct plank_value value;
+    CHECK(read_script(NULL) == 0);
+    CHECK(plank_file_def_count(nodes, WORDS, 0) == 2);
+    def = (uint32_t)plank_file_def(nodes, WORDS, 0, 0);
+    CHECK(is_name(plank_const_decl_name(nodes, WORDS, def), "a"));
+    CHECK(plank_is_none(plank_const_decl_type(nodes, WORDS, def)));
+    outer = (uint32_t)plank_const_decl_assign(nodes, WORDS, def);
+    CHECK(plank_kind(nodes, WORDS, outer) == PLANK_NODE_BINARY_EXPR);
+    CHECK(plank_binary_expr_op(nodes, WORDS, outer) == PLANK_BINARY_OP_MINUS);
+    CHECK(plank_binary_expr_op_span(nodes, WORDS, outer, &span) == 0);
+    CHECK(plank_token_kind(tokens[span.start]) == PLANK_TOKEN_MINUS && span.end == span.start + 1);
+    inner = (uint32_t)plank_binary_expr_lhs(nodes, WORDS, outer);
+    CHECK(is_name(plank_ident(nodes, WORDS, (uint32_t)plank_binary_expr_lhs(nodes, WORDS, inner)), "b"));
+
+    CHECK(plank_node_at(nodes, WORDS, (uint32_t)plank_binary_expr_rhs(nodes, WORDS, inner), &node));
+    CHECK(node.kind == PLANK_NODE_NUM_LITERAL && plank_value_at(values, WORDS, node.payload, &value));
+    CHECK(value.tag == PLANK_VALUE_NUMBER && value.count == 1 && value.words[0] == 5);
+    CHECK(plank_node_at(nodes, WORDS, (uint32_t)plank_binary_expr_rhs(nodes, WORDS, outer), &node));
+    CHECK(node.kind == PLANK_NODE_STRING_LITERAL && plank_value_at(values, WORDS, node.payload, &value));
+    CHECK(value.tag == PLANK_VALUE_STRING && value.count == 5);
+    CHECK(plank_value_byte(value, 0) == 'x' && plank_value_byte(value, 4) == 'v' && plank_value_byte(value, 5) == 0);
+
+    call = (uint32_t)plank_const_decl_assign(nodes, WORDS, (uint32_t)plank_file_def(nodes, WORDS, 0, 1));
+    CHECK(plank_call_expr_arg_count(nodes, WORDS, call) == 2);
+    CHECK(is_name(plank_ident(nodes, WORDS, (uint32_t)plank_call_expr_arg(nodes, WORDS, call, 1)), "b"));
+    CHECK(plank_is_none(plank_call_expr_arg(nodes, WORDS, call, 2)));
+}
+
+/* Refusals leave all words 0, and the counts. */
+static void test_refusals(void) {
+    struct plank_counts counts = {7, 7, 7, 7};
+    uint64_t answer;
+    size_t i;
+    CHECK(read_script(NULL) == 0);
+    answer = plank_checked_read(script, LEN, words(tokens, WORDS), words(nodes, 5), words(values, WORDS),
+                                words(reports, WORDS), &counts);
+    CHECK(plank_refusal(answer) == PLANK_REFUSAL_NODES_DONT_FIT && plank_place(answer) == 1);
+    CHECK(counts.tokens == 0 && counts.nodes == 0 && counts.values == 0 && counts.reports == 0);
+    for (i = 0; i < WORDS; i++) {
+        CHECK(tokens[i] == 0 && values[i] == 0 && reports[i] == 0 && (i >= 5 || nodes[i] == 0));
+    }
+    answer = plank_checked_lex((const uint8_t *)"a\xff", 2, words(tokens, WORDS));
+    CHECK(plank_refusal(answer) == PLANK_REFUSAL_NOT_UTF8 && plank_place(answer) == 1);
+    answer = plank_checked_lex(script, LEN, words(tokens, 3));
+    CHECK(plank_refusal(answer) == PLANK_REFUSAL_TOKENS_DONT_FIT && plank_place(answer) > 3);
+}
+
+static void test_altered_words(void) {
+    uint64_t answer;
+    CHECK(read_script(NULL) == 0);
+    nodes[0] = UINT32_C(50) << PLANK_NODE_LOW;
+    answer = plank_file_def(nodes, WORDS, 0, 0);
+    CHECK(plank_refusal(answer) == PLANK_REFUSAL_ALTERED_NODES && plank_place(answer) == 0);
+    answer = plank_kind(nodes, WORDS, UINT32_MAX);
+    CHECK(plank_refusal(answer) == PLANK_REFUSAL_ALTERED_NODES && plank_place(answer) == UINT32_MAX);
+}
+
+/* A null pointer of length 0 is an empty slice. */
+static void test_empty(void) {
+    struct plank_words none = words(NULL, 0);
+    struct plank_node node;
+    struct plank_report report;
+    struct plank_value value;
+    uint64_t answer;
+    CHECK(plank_checked_lex(NULL, 0, words(tokens, 1)) == 1);
+    CHECK(plank_checked_read(NULL, 0, words(tokens, 1), words(nodes, 5), none, none, NULL) == 0);
+    answer = plank_checked_lex(NULL, 0, none);
+    CHECK(plank_refusal(answer) == PLANK_REFUSAL_TOKENS_DONT_FIT && plank_place(answer) == 1);
+    answer = plank_checked_read(NULL, 0, none, none, none, none, NULL);
+    CHECK(plank_refusal(answer) == PLANK_REFUSAL_TOKENS_DONT_FIT && plank_place(answer) == 1);
+    CHECK(plank_refusal(plank_kind(NULL, 0, 0)) == PLANK_REFUSAL_ALTERED_NODES);
+    CHECK(plank_refusal(plank_child_count(NULL, 0, 0)) == PLANK_REFUSAL_ALTERED_NODES);
+    CHECK(!plank_node_at(NULL, 0, 0, &node) && !plank_report_at(NULL, 0, 0, &report));
+    CHECK(!plank_value_at(NULL, 0, 0, &value) && plank_spelling(NULL, 0, NULL, 0, 0).len == 0);
+}
+
+static void test_misuse(void) {
+    struct plank_words none = words(NULL, 0);
+    struct plank_words null = words(NULL, 1);
+    struct plank_token_span span;
+    CHECK(plank_checked_lex(NULL, 1, none) == plank_misuse(PLANK_MISUSE_NULL, PLANK_SLICE_TEXT));
+    CHECK(plank_checked_lex(script, LEN, null) == plank_misuse(PLANK_MISUSE_NULL, PLANK_SLICE_TOKENS));
+    CHECK(plank_checked_read(script, LEN, none, none, none, null, NULL) ==
+          plank_misuse(PLANK_MISUSE_NULL, PLANK_SLICE_REPORTS));
+    CHECK(plank_checked_read(script, LEN, words(tokens, WORDS), none, words(tokens + 9, 1), none, NULL) ==
+          plank_misuse(PLANK_MISUSE_OVERLAP, PLANK_SLICE_VALUES));
+    CHECK(plank_checked_lex((const uint8_t *)tokens, 4, words(tokens, 1)) ==
+          plank_misuse(PLANK_MISUSE_OVERLAP, PLANK_SLICE_TOKENS));
+    CHECK(plank_checked_lex(script, LEN, words(tokens, SIZE_MAX)) ==
+          plank_misuse(PLANK_MISUSE_LENGTH, PLANK_SLICE_TOKENS));
+    CHECK(plank_kind(NULL, 5, 0) == plank_misuse(PLANK_MISUSE_NULL, PLANK_SLICE_NODES));
+    CHECK(plank_span(NULL, 5, 0, &span) == plank_misuse(PLANK_MISUSE_NULL, PLANK_SLICE_NODES));
+    CHECK(plank_span(nodes, WORDS, 0, NULL) == plank_misuse(PLANK_MISUSE_NULL, PLANK_SLICE_SPAN));
+}
+
+int main(void) {
+    test_reading();
+    test_views();
+    test_refusals();
+    test_altered_words();
+    test_empty();
+    test_misuse();
+    return 0;
+}

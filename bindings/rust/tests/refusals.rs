@@ -1,0 +1,189 @@
+//! Refusals, and what wrong use is answered with.
+
+use plank::{
+    Altered, ConcreteSyntaxTree, Lexed, Refusal, accessor,
+    cst::{BytesId, NodeIdx, NodeView, NumLitId, StrId},
+    lexer::{SourceByteOffset, TokenIdx},
+    raw,
+};
+
+/// `raw::read` of `const a = 1;`, which has 9 tokens, 4 nodes and 2 value words, into slices full of 7.
+fn read(lengths: [usize; 4]) -> (Result<raw::Counts, Refusal>, [Vec<u32>; 4]) {
+    let [mut tokens, mut nodes, mut values, mut reports] = lengths.map(|length| vec![7; length]);
+    let answer = raw::read(b"const a = 1;", &mut tokens, &mut nodes, &mut values, &mut reports);
+    (answer, [tokens, nodes, values, reports])
+}
+
+#[test]
+fn slices_of_just_enough_words_are_written() {
+    let (answer, words) = read([9, 20, 2, 0]);
+    assert_eq!(answer, Ok(raw::Counts { tokens: 9, nodes: 4, values: 2, reports: 0 }));
+    assert!(words.iter().flatten().all(|word| *word != 7));
+    let (_, longer) = read([12, 26, 3, 5]);
+    for (just, longer) in words.iter().zip(&longer) {
+        assert_eq!(longer[..just.len()], just[..]);
+        assert!(longer[just.len()..].iter().all(|word| *word == 0));
+    }
+}
+
+#[test]
+fn short_slices_are_refused_and_left_0() {
+    let needed = 9;
+    let token = TokenIdx::new;
+    for (lengths, refusal) in [
+        ([8, 20, 2, 0], Refusal::TokensDontFit { needed }),
+        ([0, 0, 0, 0], Refusal::TokensDontFit { needed }),
+        ([9, 19, 2, 0], Refusal::NodesDontFit { token: token(7) }),
+        ([9, 4, 2, 0], Refusal::NodesDontFit { token: token(0) }),
+        ([9, 20, 1, 0], Refusal::ValuesDontFit { token: token(7) }),
+    ] {
+        let (answer, words) = read(lengths);
+        assert_eq!(answer, Err(refusal), "{lengths:?}");
+        assert!(words.iter().flatten().all(|word| *word == 0));
+    }
+    let mut nodes = [7; 5];
+    let answer = raw::read(b"a", &mut [0; 2], &mut nodes, &mut [], &mut []);
+    assert_eq!(answer, Err(Refusal::ReportsDontFit { token: token(0) }));
+    assert_eq!(nodes, [0; 5]);
+    let mut tokens = [7; 8];
+    assert_eq!(raw::lex(b"const a = 1;", &mut tokens), Err(Refusal::TokensDontFit { needed }));
+    assert_eq!(tokens, [0; 8]);
+}
+
+#[test]
+fn text_that_is_not_utf8_is_refused() {
+    let refusal = Refusal::NotUtf8 { offset: SourceByteOffset::new(2) };
+    assert_eq!(plank::read(b"a \x80 b"), Err(refusal));
+    assert_eq!(Lexed::lex(b"a \x80 b"), Err(refusal));
+    assert_eq!((refusal.number(), refusal.place()), (1, 2));
+    assert_eq!(refusal.to_string(), "refused 1: not UTF-8 at byte 2");
+}
+
+fn tree() -> ConcreteSyntaxTree {
+    plank::parse("const a = 1;").unwrap()
+}
+
+/// The words of that tree with one of the nodes' set to another.
+fn altered(at: usize, word: u32) -> Vec<u32> {
+    let mut nodes = tree().node_words().to_vec();
+    nodes[at] = word;
+    nodes
+}
+
+fn from_nodes(nodes: Vec<u32>) -> Result<ConcreteSyntaxTree, Altered> {
+    let tree = tree();
+    ConcreteSyntaxTree::from_words(
+        tree.source(),
+        tree.lexed().words().to_vec(),
+        nodes,
+        tree.value_words().to_vec(),
+        tree.report_words().to_vec(),
+    )
+}
+
+#[test]
+fn kept_words_make_the_same_tree() {
+    assert_eq!(from_nodes(tree().node_words().to_vec()), Ok(tree()));
+}
+
+/// Refusal 8 at a node.
+fn refused<T>(node: u32) -> Result<T, Refusal> {
+    Err(Refusal::AlteredNodes { node: NodeIdx::new(node) })
+}
+
+#[test]
+fn altered_words_are_refusal_8_of_views() {
+    let nodes = tree().node_words().to_vec();
+    let name = |nodes: &[u32], n| raw::number(accessor::CONST_DECL_NAME, nodes, n, 0);
+    assert_eq!(name(&nodes, 1), Ok(Some(2)));
+    assert_eq!(name(&nodes, 0), Ok(None));
+    assert_eq!(name(&nodes, 4), refused(4));
+    assert_eq!(name(&[], 0), refused(0));
+    assert_eq!(name(&nodes[..8], 1), refused(1));
+    // A kind above 49, a next sibling that isn't above its own node, a child past the words.
+    assert_eq!(name(&altered(10, 50 << 26), 1), refused(2));
+    assert_eq!(name(&altered(13, 2), 1), refused(2));
+    assert_eq!(name(&altered(9, 9), 1), refused(9));
+    // What is not looked at doesn't matter.
+    assert_eq!(name(&altered(15, 63 << 26), 1), Ok(Some(2)));
+    let kind = altered(5, 50 << 26);
+    assert_eq!(raw::span(accessor::CONST_DECL_SPAN, &kind, 1), refused(1));
+    assert_eq!(raw::count(accessor::FILE_DEF_COUNT, &altered(8, 1), 0), refused(1));
+    // An accessor that there isn't, or one that tells something else.
+    assert_eq!(raw::number(999, &nodes, 1, 0), Ok(None));
+    assert_eq!(raw::number(accessor::CONST_DECL_SPAN, &nodes, 1, 0), Ok(None));
+    assert_eq!(raw::number(accessor::FILE_DEF, &nodes, 0, u32::MAX), Ok(None));
+}
+
+#[test]
+fn altered_words_make_no_tree() {
+    let refusal = |node| Altered::Node(Refusal::AlteredNodes { node: NodeIdx::new(node) });
+    for (nodes, error) in [
+        (vec![], refusal(0)),
+        (altered(10, 50 << 26), refusal(2)),
+        (altered(13, 2), refusal(2)),
+        (altered(9, 9), refusal(9)),
+        (altered(13, u32::MAX), refusal(u32::MAX)),
+        (altered(0, 1 << 26), Altered::NoFile),
+        (altered(15, 15 << 26 | 25), Altered::Operator(NodeIdx::new(3))),
+        (altered(9, 3), Altered::Linked(NodeIdx::new(3))),
+        (altered(14, 2), Altered::Linked(NodeIdx::new(2))),
+        (tree().node_words()[..19].to_vec(), Altered::LeftOver),
+    ] {
+        assert_eq!(from_nodes(nodes.clone()), Err(error), "{nodes:?}");
+        assert_ne!(error.to_string(), "");
+    }
+    let words = |tokens: Vec<u32>, reports: Vec<u32>| {
+        let nodes = tree().node_words().to_vec();
+        ConcreteSyntaxTree::from_words("const a = 1;", tokens, nodes, vec![], reports)
+    };
+    assert_eq!(words(vec![0, 82 << 25], vec![]), Err(Altered::Token(TokenIdx::new(1))));
+    assert_eq!(words(vec![], vec![17 << 26, 0, 0]), Err(Altered::Report(0)));
+    assert_eq!(words(vec![], vec![1 << 26 | 6, 0, 0]), Err(Altered::Report(0)));
+    assert_eq!(words(vec![], vec![0]), Err(Altered::LeftOver));
+}
+
+/// Words that are no text's own: every view answers all the same.
+#[test]
+fn any_words_that_link_a_tree_can_be_viewed() {
+    let head = |kind: u32| kind << 26;
+    for kind in 0..50 {
+        for inner in 0..50 {
+            #[rustfmt::skip]
+            let nodes = vec![
+                0, 0, 9, 0, 1,
+                head(kind) | 1, 0, 9, 0, 2,
+                head(inner), 3, 2, 3, 0,
+                head(9), 7, 7, 0, 0,
+            ];
+            let tree = from_nodes(nodes).unwrap();
+            walk(&tree);
+        }
+    }
+}
+
+fn walk(tree: &ConcreteSyntaxTree) {
+    for n in 0..tree.node_count() {
+        let view = NodeView::new(tree, NodeIdx::new(n)).unwrap();
+        // `Debug` asks for all fields.
+        let def = format!("{:?}", plank::ast::TopLevelDef::new(view));
+        let expr = format!("{:?}", plank::ast::Expr::new(view));
+        let statement = format!("{:?}", plank::ast::Statement::new(view));
+        assert!(!def.is_empty() && !expr.is_empty() && !statement.is_empty());
+    }
+}
+
+#[test]
+fn numbers_past_the_words_are_answered() {
+    let tree = tree();
+    let past = NodeIdx::new(4);
+    assert_eq!(NodeView::new(&tree, past).err(), Some(Refusal::AlteredNodes { node: past }));
+    assert_eq!(tree.node(past), None);
+    assert_eq!(tree.lexed().get(TokenIdx::new(9)), None);
+    assert_eq!(tree.lexed().token_src_span(TokenIdx::new(u32::MAX)), None);
+    assert_eq!(tree.name(StrId::new(9)), "");
+    assert_eq!(tree.num_lit_limbs(NumLitId::new(0)), Some(&[1][..]));
+    assert_eq!(tree.num_lit_limbs(NumLitId::new(1)), None);
+    assert_eq!(tree.num_lit_limbs(NumLitId::new(2)), None);
+    assert_eq!(tree.bytes(BytesId::new(0)), None);
+}

@@ -1,0 +1,30 @@
+#!/usr/bin/env bash
+# Tests the bindings against libexports.a: the header and its example with C and C++ compilers, then the crate.
+# PLANK_LIB names the library's folder, target/staticlib without it. What is built goes to target/.
+set -eu
+cd "$(dirname "$0")/.."
+export PLANK_LIB="${PLANK_LIB:-$PWD/target/staticlib}"
+export CARGO_TARGET_DIR="${CARGO_TARGET_DIR:-$PWD/target/bindings}"
+if [ ! -e "$PLANK_LIB/libexports.a" ]; then
+    echo "$PLANK_LIB/libexports.a is not there: \`rt staticlib exports\` writes it, PLANK_LIB names its folder" >&2
+    exit 2
+fi
+built="$CARGO_TARGET_DIR/c"
+mkdir -p "$built"
+
+for compiler in "cc -std=c11" "c++ -x c++ -std=c++11"; do
+    for program in test example; do
+        # The library follows the language flag off, as it is no source.
+        $compiler -Wall -Wextra -Werror -pedantic "bindings/c/$program.c" -x none "$PLANK_LIB/libexports.a" -o "$built/$program"
+    done
+    "$built/test"
+    diff <("$built/example" scripts/plot.plank) <(printf 'const PLOT_RADIUS_CM\nconst basal\n')
+    diff <("$built/example" < scripts/radius.plank) <(printf 'const radius\n')
+    diff <(printf 'const a 1;' | "$built/example") <(printf 'report 2 detail 67 from 8 to 9\nconst a\n')
+    diff <(printf '\200' | "$built/example" || echo "status $?") <(printf 'refused 1 place 0\nstatus 1\n')
+done
+
+cd bindings/rust
+cargo test --offline --quiet
+diff <(cargo run --offline --quiet --example constants -- ../../scripts/radius.plank) <(printf 'radius = (* 2 (- 630 bark))\n')
+echo "the bindings are as they should be"

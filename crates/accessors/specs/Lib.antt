@@ -1,0 +1,9 @@
+pub mod Any
+pub mod Branches
+pub mod Declarations
+pub mod Functions
+pub mod Operators
+pub mod Rows
+pub mod Statements
+pub mod Structs
+pub mod Views

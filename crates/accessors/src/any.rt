@@ -1,0 +1,50 @@
+// Accessors by number: any node, and which node an expression is.
+ghost use mathlib.Core.Path.{_≡_};
+ghost use Rattle.looking.specs.View.{none, answer, spans as spanned, counts as counted};
+ghost use Rattle.accessors.specs.Rows.{pick};
+ghost use Rattle.accessors.specs.Any.{numbers, spans, counts};
+use crate::number;
+use expr::expr;
+use expr::struct_body;
+use looking::Count;
+use looking::Spanned;
+use looking::View;
+use looking::any::child;
+use looking::any::child_count;
+use looking::any::ident;
+use looking::any::kind;
+use looking::any::span;
+
+// The accessor with this number, of a node.
+pub(crate) fn view(which: u32, nodes: &[u32], n: u32, i: u32) -> View
+    ensures { λ r. ⌜ answer r ≡ pick none (numbers i (now (nodes .entry)) n) which ⌝ }
+{
+    match which {
+        number::KIND => kind(nodes, n),
+        number::CHILD => child(nodes, n, i),
+        number::IDENT => ident(nodes, n),
+        number::EXPR => expr(nodes, n),
+        number::STRUCT_BODY => struct_body(nodes, n),
+        _ => View::None,
+    }
+}
+
+// The accessor that tells tokens with this number, of a node.
+pub(crate) fn span_view(which: u32, nodes: &[u32], n: u32) -> Spanned
+    ensures { λ r. ⌜ spanned r ≡ pick none (spans (now (nodes .entry)) n) which ⌝ }
+{
+    match which {
+        number::SPAN => span(nodes, n),
+        _ => Spanned::None,
+    }
+}
+
+// The accessor that counts with this number, of a node.
+pub(crate) fn count_view(which: u32, nodes: &[u32], n: u32) -> Count
+    ensures { λ r. ⌜ counted r ≡ pick none (counts (now (nodes .entry)) n) which ⌝ }
+{
+    match which {
+        number::CHILD_COUNT => child_count(nodes, n),
+        _ => Count::None,
+    }
+}

@@ -1,0 +1,124 @@
+// Reports and refusals in words.
+use crate::print;
+use crate::show;
+use crate::tree;
+use lexer::Lexed;
+use messages::Subject;
+use words::REPORT_WIDTH;
+use words::Report;
+use words::refusal;
+use words::report;
+
+// A place in a script, as `line:column`.
+fn print_position(text: &[u8], offset: usize) {
+    let p = position::locate(text, offset);
+    print::number(p.line);
+    print::bytes(b":");
+    print::number(p.column);
+}
+
+// A character in quotes, as the script has it from an offset to another, or by its number where it is not seen.
+fn print_character(text: &[u8], character: u32, start: usize, end: usize) {
+    if character < 32 {
+        print::bytes(b"character ");
+        print::number(character as usize);
+        return;
+    }
+    print::bytes(b"'");
+    print::part(text, start, end);
+    print::bytes(b"'");
+}
+
+// Where the character that a report names starts: an escape's behind its backslash.
+fn character_start(r: Report) -> usize {
+    let start = r.start as usize;
+    if r.kind == report::UNKNOWN_ESCAPE {
+        return start + 1;
+    }
+    start
+}
+
+fn print_subject(text: &[u8], r: Report) {
+    match messages::subject_of(r.kind, r.detail) {
+        Subject::Token(kind) => print::token(kind),
+        Subject::Character(c) => print_character(text, c, character_start(r), r.end as usize),
+        Subject::Nothing => {}
+    }
+}
+
+fn print_report(name: &[u8], text: &[u8], r: Report) {
+    print::bytes(name);
+    print::bytes(b":");
+    print_position(text, r.start as usize);
+    print::bytes(b": ");
+    print_subject(text, r);
+    print::sentence(messages::sentence_of(r.kind, r.detail));
+    print::bytes(b"\n");
+    show::place(text, r.start as usize, r.end as usize);
+}
+
+// So many reports, in the order in which they were made.
+pub(crate) fn list(name: &[u8], text: &[u8], reports: &[u32], count: usize) {
+    let mut n = 0;
+    let mut at = 0;
+    while n < count {
+        // Never so: each report that is counted has its words.
+        if reports.len() - at < REPORT_WIDTH {
+            return;
+        }
+        let r = words::report_of([reports[at], reports[at + 1], reports[at + 2]]);
+        print_report(name, text, r);
+        n += 1;
+        at += REPORT_WIDTH;
+    }
+}
+
+pub(crate) fn summary(name: &[u8], count: usize) {
+    print::bytes(name);
+    if count == 0 {
+        print::bytes(b": no mistakes\n");
+        return;
+    }
+    print::bytes(b": ");
+    print::number(count);
+    if count == 1 {
+        print::bytes(b" mistake\n");
+        return;
+    }
+    print::bytes(b" mistakes\n");
+}
+
+// Where a token starts. A refusal leaves no tokens, so the text is lexed once more.
+fn start_of_token(text: &[u8], tokens: &mut [u32], token: u32) -> usize {
+    match lexer::lex(text, tokens) {
+        Lexed::Tokens(_) => tree::token_start(tokens, token),
+        Lexed::Refused(_, _) => 0,
+    }
+}
+
+// The place of a refusal: the number of a byte or a token, and where that is.
+fn print_place(text: &[u8], unit: &[u8], number: u32, offset: usize) {
+    print::bytes(unit);
+    print::number(number as usize);
+    print::bytes(b" (");
+    print_position(text, offset);
+    print::bytes(b")\n");
+}
+
+fn print_refusal_place(text: &[u8], tokens: &mut [u32], number: u32, place: u32) {
+    match number {
+        refusal::NOT_UTF8 => print_place(text, b" at byte ", place, place as usize),
+        refusal::TOO_LONG => print::bytes(b"\n"),
+        _ => {
+            let start = start_of_token(text, tokens, place);
+            print_place(text, b" at token ", place, start);
+        }
+    }
+}
+
+pub(crate) fn refused(name: &[u8], text: &[u8], tokens: &mut [u32], number: u32, place: u32) {
+    print::bytes(name);
+    print::bytes(b": refused: ");
+    print::refusal(number);
+    print_refusal_place(text, tokens, number, place);
+}

@@ -1,0 +1,168 @@
+// Parts of a script as people see them: blanks for what moves the cursor, and carets under a place.
+ghost use Prim.Native.Nat.{_≤_};
+use crate::print;
+
+// The most bytes that are shown of a line, and of those the most before the place that the line is shown for.
+const WIDEST: usize = 160;
+
+const BEFORE: usize = 100;
+
+// The room for a line: its bytes, those of a character that is not cut, and a caret.
+const ROOM: usize = 168;
+
+fn least(a: usize, b: usize) -> usize
+    ensures { λ r. ⌜ (r ≤ a) × (r ≤ b) ⌝ }
+{
+    if a < b { a } else { b }
+}
+
+// Puts a byte behind the n that a line has; what has no room is left out, and there is always room for one more.
+fn put(line: &mut [u8; ROOM], n: usize, byte: u8) -> usize
+    ensures { λ r. ⌜ r ≤ 167 ⌝ }
+{
+    if n < ROOM - 1 {
+        line[n] = byte;
+        return n + 1;
+    }
+    ROOM - 1
+}
+
+// The first n bytes of a line.
+fn print_line(line: &[u8; ROOM], n: usize) {
+    print::part(line, 0, n);
+}
+
+// The first offset from one on where a character begins, or the text's end.
+fn next_start(text: &[u8], from: usize) -> usize {
+    let mut at = from;
+    while at < text.len() {
+        if position::is_start(text[at]) {
+            return at;
+        }
+        at += 1;
+    }
+    at
+}
+
+// Where the shown part of a line starts.
+fn part_start(text: &[u8], line_start: usize, place: usize) -> usize {
+    // Never so: a place lies in its line.
+    if place < line_start {
+        return line_start;
+    }
+    if place - line_start <= BEFORE {
+        return line_start;
+    }
+    next_start(text, place - BEFORE)
+}
+
+// Where it ends.
+fn part_end(text: &[u8], start: usize, line_end: usize) -> usize {
+    // Never so.
+    if line_end < start {
+        return start;
+    }
+    if line_end - start <= WIDEST {
+        return line_end;
+    }
+    next_start(text, start + WIDEST)
+}
+
+// A control character is shown as a blank, but for a tab.
+fn shown(byte: u8) -> u8 {
+    if byte == b'\t' {
+        return byte;
+    }
+    if byte == 127 {
+        return b' ';
+    }
+    if byte < b' ' {
+        return b' ';
+    }
+    byte
+}
+
+// A part of a text on one line.
+pub(crate) fn echo(text: &[u8], start: usize, end: usize) {
+    let mut line = [b' '; ROOM];
+    let mut n = 0;
+    let stop = least(end, text.len());
+    let mut at = start;
+    while at < stop {
+        n = put(&mut line, n, shown(text[at]));
+        at += 1;
+    }
+    print_line(&line, n);
+}
+
+// What stands under a character: a caret from the place on, and what is as wide before it.
+fn mark(byte: u8, is_inside: bool) -> u8 {
+    if is_inside {
+        return b'^';
+    }
+    if byte == b'\t' {
+        return b'\t';
+    }
+    b' '
+}
+
+// Puts the mark of a byte, if it begins a character.
+fn put_mark(line: &mut [u8; ROOM], n: usize, byte: u8, is_inside: bool) -> usize
+    requires { ⌜ n ≤ 167 ⌝ }
+    ensures { λ r. ⌜ r ≤ 167 ⌝ }
+{
+    if position::is_start(byte) {
+        return put(line, n, mark(byte, is_inside));
+    }
+    n
+}
+
+// Where the carets of a place end, on a line that ends at `end`: behind its first character at least.
+fn carets_end(end: usize, place: usize, place_end: usize) -> usize {
+    if end <= place {
+        return end;
+    }
+    if place_end <= place {
+        return place + 1;
+    }
+    least(end, place_end)
+}
+
+// Carets under the characters of a place, at least one, where the line is shown from `start` to `end`.
+fn carets(text: &[u8], start: usize, end: usize, place: usize, place_end: usize) {
+    let mut line = [b'^'; ROOM];
+    let mut n = 0;
+    let stop = least(carets_end(end, place, place_end), text.len());
+    let mut at = start;
+    while at < stop {
+        n = put_mark(&mut line, n, text[at], place <= at);
+        at += 1;
+    }
+    // At the line's end there is no character, and a caret stands behind the last one.
+    if end <= place {
+        print_line(&line, n + 1);
+        return;
+    }
+    print_line(&line, n);
+}
+
+// What shows that a line is cut, or keeps the carets below it in their place.
+fn print_if(is_cut: bool, sign: &[u8]) {
+    if is_cut {
+        print::bytes(sign);
+    }
+}
+
+// The line of a place, or as much as is shown of it, with carets under the place.
+pub(crate) fn place(text: &[u8], place: usize, place_end: usize) {
+    let line = position::source_line(text, place);
+    let start = part_start(text, line.start, place);
+    let end = part_end(text, start, line.end);
+    print_if(line.start < start, b"...");
+    echo(text, start, end);
+    print_if(end < line.end, b"...");
+    print::bytes(b"\n");
+    print_if(line.start < start, b"   ");
+    carets(text, start, end, place, place_end);
+    print::bytes(b"\n");
+}

@@ -1,0 +1,3 @@
+pub mod Position
+pub mod Laws
+pub mod Examples

@@ -1,0 +1,47 @@
+//! The run over all texts.
+
+use crate::{
+    answer::MOST_BYTES,
+    options::ReadOptions,
+    read::{
+        check::{Difference, first_difference, first_difference_unreadable},
+        fault::Fault,
+        tally::Tally,
+    },
+    run::{Run, in_a_thread},
+};
+use generate::{ParseTexts, Texts, long_texts, nests, short_rows, texts_around_the_limit};
+use std::process::ExitCode;
+
+pub fn run(options: &ReadOptions) -> ExitCode {
+    in_a_thread(|| run_all(options))
+}
+
+fn run_all(options: &ReadOptions) -> ExitCode {
+    let fault = options.plant;
+    let mut tally = Tally::default();
+    let mut run = Run::new(100_000);
+    if let Some(fault) = fault {
+        println!("planted fault: {fault:?}");
+    }
+    let mut all = |sort: &str, texts: &mut dyn Iterator<Item = Vec<u8>>| {
+        run.all(sort, texts, |text| difference(text, fault, &mut tally).is_some());
+    };
+    let generated = ParseTexts::new(options.seed).take(options.texts);
+    all("generated", &mut generated.map(String::into_bytes));
+    all("nests", &mut nests().map(String::into_bytes));
+    all("short rows", &mut short_rows().map(String::into_bytes));
+    let limit_texts = texts_around_the_limit();
+    all("as long as may be", &mut long_texts().map(String::into_bytes).chain(limit_texts));
+    all("generated, of any bytes", &mut Texts::new(options.seed).take(options.texts / 2));
+    print!("{tally}");
+    run.show_first(|text| difference(text, fault, &mut Tally::default()));
+    run.end()
+}
+
+fn difference(text: &[u8], fault: Option<Fault>, tally: &mut Tally) -> Option<Difference> {
+    match str::from_utf8(text) {
+        Ok(readable) if text.len() <= MOST_BYTES => first_difference(readable, fault, tally),
+        _ => first_difference_unreadable(text, tally),
+    }
+}
