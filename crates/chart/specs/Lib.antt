@@ -9,5 +9,4 @@ pub mod Rules
 pub mod Sound
 pub mod Complete
 pub mod Errors
-pub mod Kinds
 pub mod Examples

@@ -12,7 +12,7 @@ use Rattle.chart.specs.Tree.{Trees}
 use Rattle.chart.specs.Chart.{Derives, file}
 use Rattle.tree.specs.Stored.{stored}
 use Rattle.tree.specs.Grown.{sizes}
-use Rattle.tree.specs.Linked.{LinkedOnce, Ordered}
+use Rattle.tree.specs.Linked.{LinkedOnce, Reached}
 use Rattle.reader.specs.Read.{Read}
 
 -- "The row is the text's tokens as the definition of demand 2 gives them" (01, The wall chart).
@@ -33,8 +33,8 @@ pub record Agreed (text tokens nodes values : List ℕ) (tokenCount nodeCount va
   pub all : (t : Trees) → Derived text t → sizes t ≡ nodeCount
   -- Every node but File is linked exactly once.
   pub linked : (t : Trees) → Derived text t → (i : ℕ) → 0 < i → i < nodeCount → LinkedOnce nodes nodeCount i
-  -- All are reached from File, and no next sibling is at or below its own node.
-  pub ordered : (t : Trees) → Derived text t → Ordered nodes nodeCount
+  -- And all are reached from File.
+  pub reached : (t : Trees) → Derived text t → (i : ℕ) → i < nodeCount → Reached nodes i
 
 -- Demand 3 of an answer and the words that came with it. Its only hypothesis is that the answer is no refusal: the row comes from the text,
 -- the tree from the words, the counts from the answer.

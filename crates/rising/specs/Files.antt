@@ -1,15 +1,14 @@
 -- The readers' programs, gone through: imports, constants, declarations, the file.
-use mathlib.Core.Path.{_≡_, refl}
+use mathlib.Core.Path.{refl}
 use mathlib.Core.Bool.{Bool, true, false}
-use mathlib.Core.Option.{Option, none, some}
-use Prim.Native.Nat.{ℕ, _+_, _≤_, _<_}
+use mathlib.Core.Option.{Option}
+use Prim.Native.Nat.{ℕ, _≤_}
 use native.Mathlib.Omega.{arith}
-use Rattle.words.specs.Node
 use Rattle.definition.specs.declared.Unfinished.{Unfinished}
-use Rattle.definition.specs.Prog.{Turn, again, stop, Prog, Act, Give, Then, Branch, Loop}
+use Rattle.definition.specs.Prog.{Act}
 use Rattle.definition.specs.Declarations.{pathTurn, parseImportGroupItem, Group, groupItem, parseImportGroup, ImportSoFar, globImport, groupImport, importTurn, importAs, parseImportDecl, parseConstDecl, noDecl, skipUnlessEof, parseDecl, declTurn, parseFile}
-use Rattle.rising.specs.Rules.{New, Newer, nothing, newer, Ok, Calm, Fresh, Maybe, Goes, goes, ends, ok-then, then-give, then-branch, then-calm, then-then, ok-give, ok-branch, calm-peek, calm-pass, calm-position, calm-here, calm-before, calm-emit, calm-kindOf, one, later}
-use Rattle.rising.specs.Steps.{new, Open, open′, then-alloc, then-alloc-here, then-push, then-close, then-fresh, then-maybe, then-loop, ok-fresh, ok-maybe, fresh, maybe, calm-give, calm-then, calm-branch, calm-loop, calm-updateKind, fresh-block, close-new, give-new, give-newer, give-nothing, again-open, stop-open, Elem, got, left, ok-newer, Waits, idle, waits, Both, both-idle, both-waits}
+use Rattle.rising.specs.Rules.{New, Newer, nothing, newer, Ok, Calm, Fresh, Goes, goes, ends, ok-then, then-calm, ok-give, ok-branch, calm-peek, calm-pass, calm-position, calm-here, calm-before, calm-emit, one, later}
+use Rattle.rising.specs.Steps.{Open, open′, then-alloc, then-alloc-here, then-push, then-close, then-fresh, then-loop, ok-fresh, fresh, calm-give, calm-then, calm-branch, calm-loop, calm-updateKind, fresh-block, close-new, give-new, push-open, give-open, again-open, stop-open, Elem, got, left, ok-newer}
 use Rattle.rising.specs.Programs.{check-calm, eat-calm, eof-calm, emitUnexpected-calm, skipUntilDeclStart-calm, expect-calm, expectCheckRecovery-calm, expectIdent-fresh, parseExpr-fresh}
 use Rattle.rising.specs.Readers.{then-delimited}
 
@@ -19,15 +18,46 @@ pathTurn-calm x = calm-then (eat-calm _) (λ _. calm-branch (calm-then (check-ca
 
 parseImportGroupItem-fresh : Fresh parseImportGroupItem
 unfolding parseImportGroupItem
-parseImportGroupItem-fresh = fresh (λ c. then-alloc-here _ _ (omega arith) (λ u un uz. then-fresh expectIdent-fresh (λ a ad al ah. then-calm calm-before (λ _. then-push u a (one uz) (omega arith) (λ v vn vz. then-calm (check-calm _) (λ _. then-calm (calm-branch (calm-then (calm-loop pathTurn-calm) (λ _. calm-emit)) calm-give) (λ _. then-then (then-calm (eat-calm _) (λ _. then-branch (then-then (then-fresh expectIdent-fresh (λ b bd bl bh. then-push v b (later (omega arith)) (omega arith) (λ w wn wz. close-new w (omega arith) (omega arith))))) (then-give (close-new v (omega arith) (omega arith))))))))))))
+parseImportGroupItem-fresh =
+    fresh (λ c. then-alloc-here _ _ (omega arith) (λ u un uz.
+    then-fresh expectIdent-fresh (λ a ad al ah.
+    then-calm calm-before (λ _.
+    then-push u a (one uz) (omega arith) (λ v vn vz.
+    then-calm (check-calm _) (λ _.
+    then-calm (calm-branch (calm-then (calm-loop pathTurn-calm) (λ _. calm-emit)) calm-give) (λ _.
+    ok-then {R = Open (u .node)} (then-calm (eat-calm _) (λ _.
+    ok-branch (
+    then-fresh expectIdent-fresh (λ b bd bl bh.
+    push-open v b (later (omega arith)) (omega arith) (omega arith) (omega arith)))
+    (give-open v (omega arith) (omega arith) (omega arith))))
+    (λ x xd xl xi.
+    close-new x (omega arith) (omega arith)))))))))
 
 groupItem-ok : {n c : ℕ} (g : Group) → Open n (g .node) c → Ok c (Elem (λ (x : Group) d. Open n (x .node) d) g) (groupItem g)
 unfolding groupItem
-groupItem-ok g i = then-calm (eat-calm _) (λ _. ok-branch (then-calm calm-before (λ _. then-calm calm-emit (λ _. ok-give (got i)))) (then-calm (check-calm _) (λ _. ok-branch (then-fresh parseImportGroupItem-fresh (λ a ad al ah. then-push (g .node) a (later (omega arith)) (omega arith) (λ l ln lz. ok-give (got (open′ (omega arith) (omega arith) (omega arith)))))) (ok-give (left i)))))
+groupItem-ok g i =
+    then-calm (eat-calm _) (λ _.
+    ok-branch (
+    then-calm calm-before (λ _.
+    then-calm calm-emit (λ _.
+    ok-give (got i))))
+    (then-calm (check-calm _) (λ _.
+    ok-branch (
+    then-fresh parseImportGroupItem-fresh (λ a ad al ah.
+    then-push (g .node) a (later (omega arith)) (omega arith) (λ l ln lz.
+    ok-give (got (open′ (omega arith) (omega arith) (omega arith))))))
+    (ok-give (left i)))))
 
 parseImportGroup-ok : {n c : ℕ} (group : Unfinished) → Open n group c → Ok c (New n) (parseImportGroup group)
 unfolding parseImportGroup
-parseImportGroup-ok group i = then-calm calm-peek (λ _. then-calm calm-here (λ _. then-delimited (λ (x : Group) d. Open _ (x .node) d) _ _ _ _ _ (λ y d l j. groupItem-ok y j) i (λ g gd gl gi. then-calm (calm-branch calm-emit calm-give) (λ _. then-calm (calm-branch calm-emit calm-give) (λ _. then-calm (expect-calm _) (λ _. close-new (g .node) (omega arith) (omega arith)))))))
+parseImportGroup-ok group i =
+    then-calm calm-peek (λ _.
+    then-calm calm-here (λ _.
+    then-delimited (λ (x : Group) d. Open _ (x .node) d) _ _ _ _ _ (λ y d l j. groupItem-ok y j) i (λ g gd gl gi.
+    then-calm (calm-branch calm-emit calm-give) (λ _.
+    then-calm (calm-branch calm-emit calm-give) (λ _.
+    then-calm (expect-calm _) (λ _.
+    close-new (g .node) (omega arith) (omega arith)))))))
 
 -- An import so far: its path, and the whole where it is read.
 record Soar (n : ℕ) (u : Unfinished) (o : Option ℕ) (d : ℕ) : Type 0 where
@@ -36,27 +66,74 @@ record Soar (n : ℕ) (u : Unfinished) (o : Option ℕ) (d : ℕ) : Type 0 where
 
 globImport-ok : {n c : ℕ} (public : Bool) (path : Unfinished) → Open n path c → Ok c (Goes (λ (p : ImportSoFar) d. Soar n (p .path) (p .whole) d)) (globImport public path)
 unfolding globImport
-globImport-ok public path i = then-calm (calm-updateKind _ _ _ (omega arith)) (λ _. then-calm (expect-calm _) (λ _. then-close path (ok-give (ends (record { path = i; whole = newer (omega arith) (omega arith) })))))
+globImport-ok public path i =
+    then-calm (calm-updateKind _ _ _ (omega arith)) (λ _.
+    then-calm (expect-calm _) (λ _.
+    then-close path (
+    ok-give (ends (record { path = i; whole = newer (omega arith) (omega arith) })))))
 
 groupImport-ok : {n c : ℕ} (public : Bool) (path : Unfinished) → Open n path c → Ok c (Goes (λ (p : ImportSoFar) d. Soar n (p .path) (p .whole) d)) (groupImport public path)
 unfolding groupImport
-groupImport-ok public path i = then-calm (calm-updateKind _ _ _ (omega arith)) (λ _. ok-then (parseImportGroup-ok path i) (λ a d l j. ok-give (ends (record { path = (open′ (omega arith) (omega arith) (omega arith)); whole = newer (j .low) (j .high) }))))
+groupImport-ok public path i =
+    then-calm (calm-updateKind _ _ _ (omega arith)) (λ _.
+    ok-then (parseImportGroup-ok path i) (λ a d l j. ok-give (ends (record { path = (open′ (omega arith) (omega arith) (omega arith)); whole = newer (j .low) (j .high) }))))
 
 importTurn-ok : {n c : ℕ} (public : Bool) (p : ImportSoFar) → Soar n (p .path) (p .whole) c → Ok c (Goes (λ (p : ImportSoFar) d. Soar n (p .path) (p .whole) d)) (importTurn public p)
 unfolding importTurn
-importTurn-ok public p i = then-calm (eat-calm _) (λ _. ok-branch (then-calm (eat-calm _) (λ _. ok-branch (globImport-ok public (p .path) (i .path)) (then-calm (check-calm _) (λ _. ok-branch (groupImport-ok public (p .path) (i .path)) (then-fresh expectIdent-fresh (λ a ad al ah. then-push (p .path) a (later (omega arith)) (omega arith) (λ l ln lz. ok-give (goes (record { path = (open′ (omega arith) (omega arith) (omega arith)); whole = nothing }))))))))) (ok-give (ends i)))
+importTurn-ok public p i =
+    then-calm (eat-calm _) (λ _.
+    ok-branch (
+    then-calm (eat-calm _) (λ _.
+    ok-branch (
+    globImport-ok public (p .path) (i .path))
+    (then-calm (check-calm _) (λ _.
+    ok-branch (
+    groupImport-ok public (p .path) (i .path))
+    (then-fresh expectIdent-fresh (λ a ad al ah.
+    then-push (p .path) a (later (omega arith)) (omega arith) (λ l ln lz.
+    ok-give (goes (record { path = (open′ (omega arith) (omega arith) (omega arith)); whole = nothing })))))))))
+    (ok-give (ends i)))
 
 importAs-ok : {b n c : ℕ} (start : ℕ) (public : Bool) (path : Unfinished) → Open n path c → b ≤ c → Ok c (New b) (importAs start public path)
 unfolding importAs
-importAs-ok start public path i l = then-calm (calm-updateKind _ _ _ (omega arith)) (λ _. then-close path (then-alloc _ _ _ (omega arith) (λ u un uz. then-push u (path .node) (one uz) (omega arith) (λ v vn vz. then-calm (expect-calm _) (λ _. then-fresh expectIdent-fresh (λ a ad al ah. then-push v a (later (omega arith)) (omega arith) (λ w wn wz. then-calm (expect-calm _) (λ _. close-new w (omega arith) (omega arith)))))))))
+importAs-ok start public path i l =
+    then-calm (calm-updateKind _ _ _ (omega arith)) (λ _.
+    then-close path (
+    then-alloc _ _ _ (omega arith) (λ u un uz.
+    then-push u (path .node) (one uz) (omega arith) (λ v vn vz.
+    then-calm (expect-calm _) (λ _.
+    then-fresh expectIdent-fresh (λ a ad al ah.
+    then-push v a (later (omega arith)) (omega arith) (λ w wn wz.
+    then-calm (expect-calm _) (λ _.
+    close-new w (omega arith) (omega arith)))))))))
 
 parseImportDecl-fresh : (start : ℕ) (public : Bool) → Fresh (parseImportDecl start public)
 unfolding parseImportDecl
-parseImportDecl-fresh start public = fresh (λ c. then-alloc _ _ _ (omega arith) (λ u un uz. then-fresh expectIdent-fresh (λ a ad al ah. then-push u a (one uz) (omega arith) (λ v vn vz. then-loop (λ (p : ImportSoFar) d. Soar (u .node) (p .path) (p .whole) d) (λ y d l i. importTurn-ok public y i) (record { path = (open′ (omega arith) (omega arith) (omega arith)); whole = nothing }) (λ p pd pl pi. ok-newer (p .whole) (pi .whole) (λ x l h. give-new (omega arith) h) (then-calm (eat-calm _) (λ _. ok-branch (close-new (p .path) (omega arith) (omega arith)) (importAs-ok start public (p .path) (pi .path) (omega arith)))))))))
+parseImportDecl-fresh start public =
+    fresh (λ c. then-alloc _ _ _ (omega arith) (λ u un uz.
+    then-fresh expectIdent-fresh (λ a ad al ah.
+    then-push u a (one uz) (omega arith) (λ v vn vz.
+    then-loop (λ (p : ImportSoFar) d. Soar (u .node) (p .path) (p .whole) d) (λ y d l i. importTurn-ok public y i) (record { path = (open′ (omega arith) (omega arith) (omega arith)); whole = nothing }) (λ p pd pl pi.
+    ok-newer (p .whole) (pi .whole) (λ x l h. give-new (omega arith) h) (then-calm (eat-calm _) (λ _. ok-branch (close-new (p .path) (omega arith) (omega arith)) (importAs-ok start public (p .path) (pi .path) (omega arith)))))))))
 
 parseConstDecl-fresh : (start : ℕ) → Fresh (parseConstDecl start)
 unfolding parseConstDecl
-parseConstDecl-fresh start = fresh (λ c. then-alloc _ _ _ (omega arith) (λ u un uz. then-fresh expectIdent-fresh (λ a ad al ah. then-push u a (one uz) (omega arith) (λ v vn vz. then-then (then-calm (eat-calm _) (λ _. then-branch (then-then (then-calm (calm-updateKind _ _ _ (omega arith)) (λ _. then-then (then-fresh (parseExpr-fresh _) (λ t td tl th. then-push v t (later (omega arith)) (omega arith) (λ w wn wz. then-calm (expectCheckRecovery-calm _ _) (λ _. then-fresh (parseExpr-fresh _) (λ e ed el eh. then-push w e (later (omega arith)) (omega arith) (λ y yn yz. then-calm (expectCheckRecovery-calm _ _) (λ _. close-new y (omega arith) (omega arith))))))))))) (then-give (then-calm (expectCheckRecovery-calm _ _) (λ _. then-fresh (parseExpr-fresh _) (λ e ed el eh. then-push v e (later (omega arith)) (omega arith) (λ y yn yz. then-calm (expectCheckRecovery-calm _ _) (λ _. close-new y (omega arith) (omega arith)))))))))))))
+parseConstDecl-fresh start =
+    fresh (λ c. then-alloc _ _ _ (omega arith) (λ u un uz.
+    then-fresh expectIdent-fresh (λ a ad al ah.
+    then-push u a (one uz) (omega arith) (λ v vn vz.
+    ok-then {R = Open (u .node)} (then-calm (eat-calm _) (λ _.
+    ok-branch (
+    then-calm (calm-updateKind _ _ _ (omega arith)) (λ _.
+    then-fresh (parseExpr-fresh _) (λ t td tl th.
+    push-open v t (later (omega arith)) (omega arith) (omega arith) (omega arith))))
+    (give-open v (omega arith) (omega arith) (omega arith))))
+    (λ x xd xl xi.
+    then-calm (expectCheckRecovery-calm _ _) (λ _.
+    then-fresh (parseExpr-fresh _) (λ e ed el eh.
+    then-push x e (later (omega arith)) (omega arith) (λ y yn yz.
+    then-calm (expectCheckRecovery-calm _ _) (λ _.
+    close-new y (omega arith) (omega arith))))))))))
 
 noDecl-fresh : (start : ℕ) (skip : Act) → Calm skip → Fresh (noDecl start skip)
 unfolding noDecl
@@ -68,12 +145,41 @@ skipUnlessEof-calm = calm-then eof-calm (λ _. calm-branch skipUntilDeclStart-ca
 
 parseDecl-fresh : Fresh parseDecl
 unfolding parseDecl
-parseDecl-fresh = fresh (λ c. then-calm calm-position (λ _. then-calm (eat-calm _) (λ _. ok-branch (ok-fresh (fresh-block (omega arith)) (omega arith)) (then-calm (eat-calm _) (λ _. ok-branch (ok-fresh (fresh-block (omega arith)) (omega arith)) (then-calm (eat-calm _) (λ _. ok-branch (ok-fresh (parseConstDecl-fresh _) (omega arith)) (then-calm (eat-calm _) (λ _. ok-branch (then-calm (eat-calm _) (λ _. ok-branch (ok-fresh (parseImportDecl-fresh _ true) (omega arith)) (ok-fresh (noDecl-fresh _ _ skipUnlessEof-calm) (omega arith)))) (then-calm (eat-calm _) (λ _. ok-branch (ok-fresh (parseImportDecl-fresh _ false) (omega arith)) (ok-fresh (noDecl-fresh _ _ skipUntilDeclStart-calm) (omega arith)))))))))))))
+parseDecl-fresh =
+    fresh (λ c. then-calm calm-position (λ _.
+    then-calm (eat-calm _) (λ _.
+    ok-branch (
+    ok-fresh (fresh-block (omega arith)) (omega arith))
+    (then-calm (eat-calm _) (λ _.
+    ok-branch (
+    ok-fresh (fresh-block (omega arith)) (omega arith))
+    (then-calm (eat-calm _) (λ _.
+    ok-branch (
+    ok-fresh (parseConstDecl-fresh _) (omega arith))
+    (then-calm (eat-calm _) (λ _.
+    ok-branch (
+    then-calm (eat-calm _) (λ _.
+    ok-branch (
+    ok-fresh (parseImportDecl-fresh _ true) (omega arith))
+    (ok-fresh (noDecl-fresh _ _ skipUnlessEof-calm) (omega arith))))
+    (then-calm (eat-calm _) (λ _.
+    ok-branch (
+    ok-fresh (parseImportDecl-fresh _ false) (omega arith))
+    (ok-fresh (noDecl-fresh _ _ skipUntilDeclStart-calm) (omega arith)))))))))))))
 
 declTurn-ok : {n c : ℕ} (file : Unfinished) → Open n file c → Ok c (Goes (Open n)) (declTurn file)
 unfolding declTurn
-declTurn-ok file i = then-calm eof-calm (λ _. ok-branch (stop-open file (omega arith) (omega arith) (omega arith)) (then-fresh parseDecl-fresh (λ a ad al ah. then-push file a (later (omega arith)) (omega arith) (λ l ln lz. again-open l (omega arith) (omega arith) (omega arith)))))
+declTurn-ok file i =
+    then-calm eof-calm (λ _.
+    ok-branch (
+    stop-open file (omega arith) (omega arith) (omega arith))
+    (then-fresh parseDecl-fresh (λ a ad al ah.
+    then-push file a (later (omega arith)) (omega arith) (λ l ln lz.
+    again-open l (omega arith) (omega arith) (omega arith)))))
 
 pub parseFile-fresh : Fresh parseFile
 unfolding parseFile
-parseFile-fresh = fresh (λ c. then-alloc-here _ _ (omega arith) (λ u un uz. then-loop (Open (u .node)) (λ y d l i. declTurn-ok y i) (open′ refl (omega arith) (omega arith)) (λ e ed el ei. close-new e (omega arith) (omega arith))))
+parseFile-fresh =
+    fresh (λ c. then-alloc-here _ _ (omega arith) (λ u un uz.
+    then-loop (Open (u .node)) (λ y d l i. declTurn-ok y i) (open′ refl (omega arith) (omega arith)) (λ e ed el ei.
+    close-new e (omega arith) (omega arith))))

@@ -1,16 +1,13 @@
 -- The node words that parsing leaves of any text, with reports or without, are sound where it doesn't refuse.
-use mathlib.Core.Path.{_≡_, refl, sym, _∙_, ap}
+use mathlib.Core.Path.{_≡_, refl, sym, _∙_}
 use mathlib.Core.List.{List, [], _∷_}
 use Prim.Native.Nat.{ℕ, zero, suc, _+_}
 use native.Mathlib.Omega.{arith}
 use Rattle.words.specs.Answer as Answer
-use Rattle.definition.specs.Prog.{Out, done, refused, Memory, tower, eval}
-use Rattle.definition.specs.Expressions.{tryParseExprMinBp}
-use Rattle.definition.specs.Statements.{parseBlock}
-use Rattle.definition.specs.Declarations.{parseFile}
+use Rattle.definition.specs.Prog.{Out, Memory, tower}
 use Rattle.definition.specs.Parse.{maxDepth, readers, tokenLimit, start, zeros, parsedTo, parsedWithin, parsed}
 use Rattle.rising.specs.Sound.{Sound, none-sound}
-use Rattle.rising.specs.Rules.{New, Lands, lands, halts, Good}
+use Rattle.rising.specs.Rules.{Lands, lands, halts, Good}
 use Rattle.rising.specs.Readers.{tryParseExprMinBp-maybe}
 use Rattle.rising.specs.Statements.{parseBlock-fresh}
 use Rattle.rising.specs.Files.{parseFile-fresh}

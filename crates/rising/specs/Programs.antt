@@ -1,21 +1,16 @@
 -- The readers' programs, gone through: tokens, names, literals.
-use mathlib.Core.Path.{_≡_, refl}
-use mathlib.Core.Bool.{Bool, true, false}
 use mathlib.Core.Option.{Option, none, some}
-use mathlib.Core.List.{List, [], _∷_}
-use Prim.Native.Nat.{ℕ, _+_, _≤_, _<_}
+use mathlib.Core.List.{List}
+use Prim.Native.Nat.{ℕ, _≤_, _<_}
 use native.Mathlib.Omega.{arith}
 use Rattle.words.specs.Node
-use Rattle.literals.specs.Strings.{Event, byte, report}
 use Rattle.definition.specs.declared.Mode.{Mode}
-use Rattle.definition.specs.declared.Unfinished.{Unfinished}
-use Rattle.definition.specs.Prog.{Turn, again, stop, Prog, Act, Give, Then, Branch, Loop, enterExpr, enterBlock}
+use Rattle.definition.specs.Prog.{Prog}
 use Rattle.definition.specs.Tokens.{check, eat, eof, emitUnexpected, skipTurn, skipUntilRecoveryToken, skipUntilDeclStart, expect, expectCheckRecovery}
-use Rattle.definition.specs.Nodes.{Radix, radixOf, allocNodeFrom, skipTriviaStart, allocNode, closeNode, allocLastTokenAsNode, errorNode, tryParseNumLiteral, tryParseIdent, tryParseBuiltinName, expectIdent}
+use Rattle.definition.specs.Nodes.{skipTriviaStart, allocLastTokenAsNode, errorNode, tryParseIdent, tryParseBuiltinName, expectIdent}
 use Rattle.definition.specs.Expressions.{_orElse_, unwrapOrError, tryParseExpr, parseExpr, blockHere, eats, checks}
-use Rattle.definition.specs.Statements.{whileStmt}
-use Rattle.rising.specs.Rules.{New, Newer, nothing, newer, Ok, Calm, Fresh, Maybe, Goes, goes, ends, then-give, then-branch, then-calm, then-then, ok-give, ok-branch, calm-peek, calm-pass, calm-position, calm-here, calm-before, calm-spelling, calm-intern, calm-marked, calm-emit, calm-emitAndMark, calm-closeAt, calm-closeAtStart, calm-kindOf, calm-value, Order, one, later}
-use Rattle.rising.specs.Steps.{new, Open, open′, then-alloc, then-alloc-here, then-push, then-close, then-close-at, then-fresh, then-maybe, ok-close, ok-push, ok-fresh, ok-maybe, fresh, maybe, calm-give, calm-then, calm-branch, calm-loop, calm-updateKind, maybe-expr, fresh-block, close-new, give-new, give-newer, give-nothing, push-open, give-open, again-open, stop-open}
+use Rattle.rising.specs.Rules.{New, Newer, Ok, Calm, Fresh, Maybe, ok-then, then-calm, ok-branch, calm-peek, calm-pass, calm-position, calm-here, calm-before, calm-spelling, calm-intern, calm-marked, calm-emit, calm-emitAndMark, calm-closeAt, calm-closeAtStart, calm-kindOf, calm-value}
+use Rattle.rising.specs.Steps.{then-alloc, then-alloc-here, then-fresh, then-maybe, ok-fresh, ok-maybe, fresh, maybe, calm-give, calm-then, calm-branch, calm-loop, maybe-expr, fresh-block, close-new, give-new, give-newer, give-nothing}
 
 ruleset calms = (calm-then, calm-branch, calm-give, calm-loop, calm-peek, calm-pass, calm-position, calm-here, calm-before, calm-spelling, calm-intern, calm-marked, calm-emit, calm-emitAndMark, calm-closeAt, calm-closeAtStart, calm-kindOf, calm-value)
 
@@ -61,7 +56,10 @@ skipTriviaStart-calm = search calms depth 40
 
 pub allocLastTokenAsNode-fresh : (kind payload : ℕ) → kind ≤ Node.Error → Fresh (allocLastTokenAsNode kind payload)
 unfolding allocLastTokenAsNode
-allocLastTokenAsNode-fresh kind payload k = fresh (λ c. then-calm calm-position (λ _. then-alloc _ _ _ k (λ u un uz. close-new u (omega arith) (omega arith))))
+allocLastTokenAsNode-fresh kind payload k =
+    fresh (λ c. then-calm calm-position (λ _.
+    then-alloc _ _ _ k (λ u un uz.
+    close-new u (omega arith) (omega arith))))
 
 pub errorNode-fresh : Fresh errorNode
 unfolding errorNode
@@ -69,15 +67,37 @@ errorNode-fresh = fresh (λ c. then-alloc-here _ _ (omega arith) (λ u un uz. cl
 
 pub tryParseIdent-maybe : Maybe tryParseIdent
 unfolding tryParseIdent
-tryParseIdent-maybe = maybe (λ c. then-calm (eat-calm _) (λ _. ok-branch (then-calm calm-intern (λ _. then-fresh (allocLastTokenAsNode-fresh _ _ (omega arith)) (λ a ad al ah. give-newer (omega arith) (omega arith)))) (give-nothing)))
+tryParseIdent-maybe =
+    maybe (λ c. then-calm (eat-calm _) (λ _.
+    ok-branch (
+    then-calm calm-intern (λ _.
+    then-fresh (allocLastTokenAsNode-fresh _ _ (omega arith)) (λ a ad al ah.
+    give-newer (omega arith) (omega arith))))
+    (give-nothing)))
 
 pub tryParseBuiltinName-maybe : Maybe tryParseBuiltinName
 unfolding tryParseBuiltinName
-tryParseBuiltinName-maybe = maybe (λ c. then-calm (eat-calm _) (λ _. ok-branch (then-calm calm-intern (λ _. then-fresh (allocLastTokenAsNode-fresh _ _ (omega arith)) (λ a ad al ah. give-newer (omega arith) (omega arith)))) (give-nothing)))
+tryParseBuiltinName-maybe =
+    maybe (λ c. then-calm (eat-calm _) (λ _.
+    ok-branch (
+    then-calm calm-intern (λ _.
+    then-fresh (allocLastTokenAsNode-fresh _ _ (omega arith)) (λ a ad al ah.
+    give-newer (omega arith) (omega arith))))
+    (give-nothing)))
 
 pub expectIdent-fresh : Fresh expectIdent
 unfolding expectIdent
-expectIdent-fresh = fresh (λ c. then-maybe tryParseIdent-maybe (λ a ad al ah. give-new (omega arith) (omega arith)) (λ ae am. then-calm (check-calm _) (λ _. ok-branch (then-calm calm-marked (λ _. then-calm (calm-branch (calm-then calm-here (λ _. calm-emitAndMark)) calm-give) (λ _. then-calm calm-pass (λ _. ok-fresh (allocLastTokenAsNode-fresh _ _ (omega arith)) (omega arith))))) (then-calm emitUnexpected-calm (λ _. ok-fresh errorNode-fresh (omega arith))))))
+expectIdent-fresh =
+    fresh (λ c. then-maybe tryParseIdent-maybe (λ a ad al ah.
+    give-new (omega arith) (omega arith))
+    (λ ae am. then-calm (check-calm _) (λ _.
+    ok-branch (
+    then-calm calm-marked (λ _.
+    then-calm (calm-branch (calm-then calm-here (λ _. calm-emitAndMark)) calm-give) (λ _.
+    then-calm calm-pass (λ _.
+    ok-fresh (allocLastTokenAsNode-fresh _ _ (omega arith)) (omega arith)))))
+    (then-calm emitUnexpected-calm (λ _.
+    ok-fresh errorNode-fresh (omega arith))))))
 
 pub unwrapOrError-new : {b c : ℕ} (a : ℕ) → b ≤ a → a < c → Ok c (New b) (unwrapOrError (some a))
 unfolding unwrapOrError
@@ -95,25 +115,23 @@ pub parseExpr-fresh : (mode : Mode) → Fresh (parseExpr mode)
 unfolding parseExpr
 parseExpr-fresh mode = fresh (λ c. then-maybe (tryParseExpr-maybe mode) (λ a d l h. unwrapOrError-new a l h) (λ d l. ok-fresh unwrapOrError-fresh l))
 
--- The operand that an expression is to have.
-pub operand-fresh : (mode : Mode) (min : ℕ) → Fresh (Then (enterExpr mode min) unwrapOrError)
-operand-fresh mode min = fresh (λ c. then-maybe maybe-expr (λ a d l h. unwrapOrError-new a l h) (λ d l. ok-fresh unwrapOrError-fresh l))
-
 pub blockHere-fresh : Fresh blockHere
 unfolding blockHere
 blockHere-fresh = fresh (λ c. then-calm calm-position (λ _. ok-fresh (fresh-block (omega arith)) (omega arith)))
 
-pub eats-maybe : (token : ℕ) (p : Prog ℕ) → Fresh p → Maybe (eats token p)
+pub ok-eats : {b c : ℕ} (token : ℕ) {p : Prog ℕ} → Ok c (New b) p → Ok c (Newer b) (eats token p)
 unfolding eats
-eats-maybe token p x = maybe (λ c. then-calm (eat-calm token) (λ _. ok-branch (then-fresh x (λ a d l h. give-newer l h)) give-nothing))
+ok-eats token x = then-calm (eat-calm token) (λ _. ok-branch (ok-then x (λ a d l i. give-newer (i .low) (i .high))) give-nothing)
+
+pub ok-checks : {b c : ℕ} (token : ℕ) {p : Prog ℕ} → Ok c (New b) p → Ok c (Newer b) (checks token p)
+unfolding checks
+ok-checks token x = then-calm (check-calm token) (λ _. ok-branch (ok-then x (λ a d l i. give-newer (i .low) (i .high))) give-nothing)
+
+pub eats-maybe : (token : ℕ) (p : Prog ℕ) → Fresh p → Maybe (eats token p)
+eats-maybe token p x = maybe (λ c. ok-eats token (x .fresh c))
 
 pub checks-maybe : (token : ℕ) (p : Prog ℕ) → Fresh p → Maybe (checks token p)
-unfolding checks
-checks-maybe token p x = maybe (λ c. then-calm (check-calm token) (λ _. ok-branch (then-fresh x (λ a d l h. give-newer l h)) give-nothing))
+checks-maybe token p x = maybe (λ c. ok-checks token (x .fresh c))
 
 pub or-maybe : {p q : Prog (Option ℕ)} → Maybe p → Maybe q → Maybe (p orElse q)
 or-maybe x y = maybe (λ c. then-maybe x (λ a d l h. give-newer l h) (λ d l. ok-maybe y l))
-
-pub whileStmt-fresh : (start kind : ℕ) → kind ≤ Node.Error → Fresh (whileStmt start kind)
-unfolding whileStmt
-whileStmt-fresh start kind k = fresh (λ c. then-alloc _ _ _ k (λ u un uz. then-fresh (parseExpr-fresh _) (λ a ad al ah. then-push u a (one uz) (omega arith) (λ v vn vz. then-fresh blockHere-fresh (λ b bd bl bh. then-push v b (later (omega arith)) (omega arith) (λ w wn wz. close-new w (omega arith) (omega arith)))))))

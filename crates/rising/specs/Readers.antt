@@ -1,22 +1,21 @@
 -- The readers' programs, gone through: expressions.
-use mathlib.Core.Path.{_≡_, refl}
-use mathlib.Core.Bool.{Bool, true, false}
-use mathlib.Core.Option.{Option, none, some}
+use mathlib.Core.Path.{refl}
+use mathlib.Core.Bool.{Bool, false}
+use mathlib.Core.Option.{Option}
 use mathlib.Core.List.{List, [], _∷_}
-use Prim.Native.Nat.{ℕ, _+_, _≤_, _<_}
+use Prim.Native.Nat.{ℕ, _≤_, _<_}
 use native.Mathlib.Omega.{arith}
-use Rattle.words.specs.Node
 use Rattle.literals.specs.Strings.{Event, byte, report}
 use Rattle.definition.specs.declared.Mode.{Mode}
 use Rattle.definition.specs.declared.Unfinished.{Unfinished}
-use Rattle.definition.specs.Prog.{Turn, again, stop, Prog, Act, Give, Then, Branch, Loop}
+use Rattle.definition.specs.Prog.{Prog, Then}
 use Rattle.definition.specs.Tokens.{Delimited, delimitedTurn, parseDelimited}
 use Rattle.definition.specs.Nodes.{radixOf, tryParseNumLiteral}
 use Rattle.definition.specs.Strings.{StringBuf, emitEvents, decodeToken, stringTurn, tryParseStringLiteral}
-use Rattle.definition.specs.Expressions.{Binary, checkBinaryOp, unaryOf, eatUnary, _orElse_, unwrapOrError, tryParseExpr, parseExpr, blockHere, pushOption, pushClosing, ElseIfs, elseIfBranch, elseTurn, conditional, eats, checks, tryParseConditional, fallbackArm, keyedArm, armTurn, matchExpr, tryParseMatch, anyType, parameterName, parseParameter, parseFunctionSignatureAndBody, parseFunctionDef, parseMethodDef, parseStructField, Members, fieldTurn, methodTurn, noMemberTurn, memberTurn, parseStructDef, exprElement, parseTupleType, tupleTurn, parenOrTuple, numLiteral, eagerFunction, tryParseStandaloneExpr, accessName, memberExpr, callExpr, fieldAssign, structLit, binaryExpr, binaryStep, exprTurn, unaryExpr, tryParseExprMinBp}
-use Rattle.rising.specs.Rules.{New, Newer, Ok, Calm, Fresh, Maybe, Goes, goes, ends, ok-then, then-give, then-branch, then-calm, then-then, ok-give, ok-branch, calm-peek, calm-pass, calm-position, calm-here, calm-before, calm-spelling, calm-intern, calm-emit, calm-closeAtStart, calm-value, one, later}
-use Rattle.rising.specs.Steps.{new, Open, open′, then-alloc, then-alloc-here, then-push, then-close, then-close-at, then-fresh, then-maybe, then-loop, ok-fresh, ok-maybe, fresh, maybe, calm-give, calm-then, calm-branch, calm-loop, calm-updateKind, maybe-expr, fresh-block, close-new, give-new, give-newer, give-nothing, push-open, again-open, stop-open, Elem, then-elem, got-open, left-open, calm-option, ok-option, maybe-option, then-newer, Waits, idle, waits, Both, both-idle, both-waits}
-use Rattle.rising.specs.Programs.{check-calm, eat-calm, eof-calm, emitUnexpected-calm, skipTurn-calm, skipUntilRecoveryToken-calm, skipUntilDeclStart-calm, expect-calm, expectCheckRecovery-calm, skipTriviaStart-calm, allocLastTokenAsNode-fresh, errorNode-fresh, tryParseIdent-maybe, tryParseBuiltinName-maybe, expectIdent-fresh, unwrapOrError-new, unwrapOrError-fresh, tryParseExpr-maybe, parseExpr-fresh, operand-fresh, blockHere-fresh, eats-maybe, checks-maybe, or-maybe, whileStmt-fresh}
+use Rattle.definition.specs.Expressions.{Binary, checkBinaryOp, unaryOf, eatUnary, _orElse_, unwrapOrError, ElseIfs, elseIfBranch, elseTurn, conditional, tryParseConditional, fallbackArm, keyedArm, armTurn, matchExpr, tryParseMatch, anyType, parameterName, parseParameter, parseFunctionSignatureAndBody, parseFunctionDef, parseMethodDef, parseStructField, Members, fieldTurn, methodTurn, noMemberTurn, memberTurn, parseStructDef, exprElement, parseTupleType, tupleTurn, parenOrTuple, numLiteral, eagerFunction, tryParseStandaloneExpr, accessName, memberExpr, callExpr, fieldAssign, structLit, binaryExpr, binaryStep, exprTurn, unaryExpr, tryParseExprMinBp}
+use Rattle.rising.specs.Rules.{New, Newer, Ok, Calm, Fresh, Maybe, Goes, goes, ends, ok-then, then-give, then-branch, then-calm, then-then, ok-give, ok-branch, ok-loop, calm-peek, calm-pass, calm-position, calm-here, calm-spelling, calm-intern, calm-emit, calm-value, one, later}
+use Rattle.rising.specs.Steps.{new, Open, open′, then-alloc, then-alloc-here, then-push, then-close, then-close-at, then-fresh, then-maybe, then-loop, ok-fresh, ok-maybe, fresh, maybe, calm-give, calm-then, calm-branch, calm-loop, calm-updateKind, maybe-expr, fresh-block, close-new, give-new, give-newer, give-nothing, push-open, give-open, Begun, push-begun, give-begun, again-open, stop-open, Elem, then-elem, got-open, left-open, calm-option, ok-option, maybe-option, then-newer, waiting, then-option, then-closing, Both, both-idle, both-waits}
+use Rattle.rising.specs.Programs.{check-calm, eat-calm, eof-calm, emitUnexpected-calm, skipUntilRecoveryToken-calm, expect-calm, expectCheckRecovery-calm, skipTriviaStart-calm, allocLastTokenAsNode-fresh, tryParseIdent-maybe, tryParseBuiltinName-maybe, expectIdent-fresh, unwrapOrError-fresh, tryParseExpr-maybe, parseExpr-fresh, blockHere-fresh, ok-eats, ok-checks, eats-maybe, checks-maybe, or-maybe}
 
 pub checkBinaryOp-calm : Calm checkBinaryOp
 unfolding checkBinaryOp
@@ -69,46 +68,106 @@ then-delimited I opener terminator delimiter element x h i k =
     then-then (then-calm (expect-calm opener) (λ _. then-then (then-loop (λ y e. I (y .list) e) (λ y d l j. delimitedTurn-ok I terminator delimiter element y (h (y .list) d l j)) i
     (λ y d l j. then-then (then-calm (expect-calm terminator) (λ _. then-give (k (y .list) d l j)))))))
 
-pub then-closing : {B : Type 0} {n c : ℕ} {Q : B → ℕ → Type 0} {w : Unfinished} (u : Unfinished) (list : ℕ) (o : Option ℕ) {f : Unfinished → Prog B} → Waits n w o c → u .last ≡ n
-    → ((v : Unfinished) → v .node ≡ u .node → Ok c Q (f v)) → Ok c Q (Then (pushClosing u list o) f)
-unfolding pushClosing
-then-closing u list none idle e h = then-give (h u refl)
-then-closing u list (some a) (waits l g i) e h = then-then (then-calm calm-closeAtStart (λ _. then-push u a (later (omega arith)) i (λ v p q. h v p)))
-
-pub ok-eats : {b c : ℕ} (token : ℕ) {p : Prog ℕ} → Ok c (New b) p → Ok c (Newer b) (eats token p)
-unfolding eats
-ok-eats token x = then-calm (eat-calm token) (λ _. ok-branch (ok-then x (λ a d l i. give-newer (i .low) (i .high))) give-nothing)
-
-pub ok-checks : {b c : ℕ} (token : ℕ) {p : Prog ℕ} → Ok c (New b) p → Ok c (Newer b) (checks token p)
-unfolding checks
-ok-checks token x = then-calm (check-calm token) (λ _. ok-branch (ok-then x (λ a d l i. give-newer (i .low) (i .high))) give-nothing)
-
 pub ok-or : {b c : ℕ} {p q : Prog (Option ℕ)} → Ok c (Newer b) p → ((d : ℕ) → c ≤ d → Ok d (Newer b) q) → Ok c (Newer b) (p orElse q)
 ok-or x y = then-newer x (λ a d l i j. give-newer i j) y
 
 pub elseIfBranch-ok : {n c : ℕ} (e : ElseIfs) (start : ℕ) → Both n (e .list) (e .elseBody) c → Ok c (Goes (λ (e : ElseIfs) d. Both n (e .list) (e .elseBody) d)) (elseIfBranch e start)
 unfolding elseIfBranch
-elseIfBranch-ok e start i = then-alloc _ _ _ (omega arith) (λ u un uz. then-fresh (parseExpr-fresh _) (λ a ad al ah. then-push u a (one uz) (omega arith) (λ u1 u1n u1z. then-fresh blockHere-fresh (λ b bd bl bh. then-push u1 b (later (omega arith)) (omega arith) (λ u2 u2n u2z. then-close u2 (then-push (e .list) (u2 .node) (later (omega arith)) (omega arith) (λ l ln lz. ok-give (goes (both-idle (open′ (omega arith) (omega arith) (omega arith)))))))))))
+elseIfBranch-ok e start i =
+    then-alloc _ _ _ (omega arith) (λ u un uz.
+    then-fresh (parseExpr-fresh _) (λ a ad al ah.
+    then-push u a (one uz) (omega arith) (λ u1 u1n u1z.
+    then-fresh blockHere-fresh (λ b bd bl bh.
+    then-push u1 b (later (omega arith)) (omega arith) (λ u2 u2n u2z.
+    then-close u2 (
+    then-push (e .list) (u2 .node) (later (omega arith)) (omega arith) (λ l ln lz.
+    ok-give (goes (both-idle (open′ (omega arith) (omega arith) (omega arith)))))))))))
 
 pub elseTurn-ok : {n c : ℕ} (e : ElseIfs) → Both n (e .list) (e .elseBody) c → Ok c (Goes (λ (e : ElseIfs) d. Both n (e .list) (e .elseBody) d)) (elseTurn e)
 unfolding elseTurn
-elseTurn-ok e i = then-calm (check-calm _) (λ _. ok-branch (then-calm calm-position (λ _. then-calm (expect-calm _) (λ _. then-calm (eat-calm _) (λ _. ok-branch (elseIfBranch-ok e _ i) (then-fresh blockHere-fresh (λ b bd bl bh. ok-give (ends (both-waits (open′ (omega arith) (omega arith) (omega arith)) (omega arith) (omega arith) (omega arith))))))))) (ok-give (ends i)))
+elseTurn-ok e i =
+    then-calm (check-calm _) (λ _.
+    ok-branch (
+    then-calm calm-position (λ _.
+    then-calm (expect-calm _) (λ _.
+    then-calm (eat-calm _) (λ _.
+    ok-branch (
+    elseIfBranch-ok e _ i)
+    (then-fresh blockHere-fresh (λ b bd bl bh.
+    ok-give (ends (both-waits (open′ (omega arith) (omega arith) (omega arith)) (omega arith) (omega arith) (omega arith)))))))))
+    (ok-give (ends i)))
 
 pub conditional-fresh : (start : ℕ) → Fresh (conditional start)
 unfolding conditional
-conditional-fresh start = fresh (λ c. then-alloc _ _ _ (omega arith) (λ u un uz. then-fresh (parseExpr-fresh _) (λ a ad al ah. then-push u a (one uz) (omega arith) (λ u1 u1n u1z. then-fresh blockHere-fresh (λ b bd bl bh. then-push u1 b (later (omega arith)) (omega arith) (λ u2 u2n u2z. then-alloc-here _ _ (omega arith) (λ l ln lz. then-loop (λ (e : ElseIfs) d. Both (l .node) (e .list) (e .elseBody) d) (λ y d g i. elseTurn-ok y i) (both-idle (open′ refl (omega arith) (omega arith))) (λ e ed el ei. then-close (e .list) (then-push u2 (e .list .node) (later (omega arith)) (omega arith) (λ u3 u3n u3z. then-closing u3 _ (e .elseBody) (ei .rest) (omega arith) (λ v vn. close-new v (omega arith) (omega arith))))))))))))
+conditional-fresh start =
+    fresh (λ c. then-alloc _ _ _ (omega arith) (λ u un uz.
+    then-fresh (parseExpr-fresh _) (λ a ad al ah.
+    then-push u a (one uz) (omega arith) (λ u1 u1n u1z.
+    then-fresh blockHere-fresh (λ b bd bl bh.
+    then-push u1 b (later (omega arith)) (omega arith) (λ u2 u2n u2z.
+    then-alloc-here _ _ (omega arith) (λ l ln lz.
+    then-loop (λ (e : ElseIfs) d. Both (l .node) (e .list) (e .elseBody) d) (λ y d g i. elseTurn-ok y i) (both-idle (open′ refl (omega arith) (omega arith))) (λ e ed el ei.
+    then-close (e .list) (
+    then-push u2 (e .list .node) (later (omega arith)) (omega arith) (λ u3 u3n u3z.
+    then-closing u3 _ (e .elseBody) (ei .rest) (omega arith) (λ v vn.
+    close-new v (omega arith) (omega arith))))))))))))
 
 pub tryParseConditional-maybe : Maybe tryParseConditional
 unfolding tryParseConditional
 tryParseConditional-maybe = maybe (λ c. then-calm calm-position (λ _. ok-eats _ (ok-fresh (conditional-fresh _) (omega arith))))
 
+pub fallbackArm-ok : {c : ℕ} (start : ℕ) → Ok c (Begun c) (fallbackArm start)
+unfolding fallbackArm
+fallbackArm-ok start =
+    then-alloc _ _ _ (omega arith) (λ r rn rz.
+    then-maybe tryParseIdent-maybe (λ m md ml mh.
+    then-calm (calm-updateKind _ _ _ (omega arith)) (λ _.
+    push-begun r m (one rz) (omega arith) (omega arith) (omega arith)))
+    (λ me mm. give-begun r (omega arith) (omega arith) (omega arith)))
+
+pub keyedArm-ok : {c : ℕ} → Ok c (Begun c) keyedArm
+unfolding keyedArm
+keyedArm-ok =
+    then-alloc-here _ _ (omega arith) (λ k kn kz.
+    then-fresh (parseExpr-fresh _) (λ x xd xl xh.
+    push-begun k x (one kz) (omega arith) (omega arith) (omega arith)))
+
 pub armTurn-ok : {n c : ℕ} (arms : Unfinished) → Open n arms c → Ok c (Goes (Open n)) (armTurn arms)
-unfolding armTurn fallbackArm keyedArm
-armTurn-ok arms i = then-calm (check-calm _) (λ _. then-calm eof-calm (λ _. ok-branch (stop-open arms (omega arith) (omega arith) (omega arith)) (then-calm calm-position (λ _. then-then (then-calm (eat-calm _) (λ _. then-branch (then-then (then-alloc _ _ _ (omega arith) (λ r rn rz. then-then (then-maybe tryParseIdent-maybe (λ m md ml mh. then-then (then-calm (calm-updateKind _ _ _ (omega arith)) (λ _. then-push r m (one rz) (omega arith) (λ r1 r1n r1z. then-calm (expect-calm _) (λ _. then-fresh (parseExpr-fresh _) (λ b bd bl bh. then-push r1 b (later (omega arith)) (omega arith) (λ w wn wz. then-close w (then-push arms (w .node) (later (omega arith)) (omega arith) (λ l ln lz. then-calm (eat-calm _) (λ _. ok-branch (again-open l (omega arith) (omega arith) (omega arith)) (stop-open l (omega arith) (omega arith) (omega arith)))))))))))) (λ me mm. then-give (then-calm (expect-calm _) (λ _. then-fresh (parseExpr-fresh _) (λ b bd bl bh. then-push r b (later (omega arith)) (omega arith) (λ w wn wz. then-close w (then-push arms (w .node) (later (omega arith)) (omega arith) (λ l ln lz. then-calm (eat-calm _) (λ _. ok-branch (again-open l (omega arith) (omega arith) (omega arith)) (stop-open l (omega arith) (omega arith) (omega arith)))))))))))))) (then-then (then-alloc-here _ _ (omega arith) (λ k kn kz. then-then (then-fresh (parseExpr-fresh _) (λ x xd xl xh. then-push k x (one kz) (omega arith) (λ k1 k1n k1z. then-calm (expect-calm _) (λ _. then-fresh (parseExpr-fresh _) (λ b bd bl bh. then-push k1 b (later (omega arith)) (omega arith) (λ w wn wz. then-close w (then-push arms (w .node) (later (omega arith)) (omega arith) (λ l ln lz. then-calm (eat-calm _) (λ _. ok-branch (again-open l (omega arith) (omega arith) (omega arith)) (stop-open l (omega arith) (omega arith) (omega arith))))))))))))))))))))
+unfolding armTurn
+armTurn-ok arms i =
+    then-calm (check-calm _) (λ _.
+    then-calm eof-calm (λ _.
+    ok-branch (
+    stop-open arms (omega arith) (omega arith) (omega arith))
+    (then-calm calm-position (λ _.
+    ok-then {R = Begun _} (then-calm (eat-calm _) (λ _.
+    ok-branch (
+    fallbackArm-ok _)
+    (keyedArm-ok)))
+    (λ r rd rl ri.
+    then-calm (expect-calm _) (λ _.
+    then-fresh (parseExpr-fresh _) (λ b bd bl bh.
+    then-push r b (later (omega arith)) (omega arith) (λ w wn wz.
+    then-close w (
+    then-push arms (w .node) (later (omega arith)) (omega arith) (λ l ln lz.
+    then-calm (eat-calm _) (λ _.
+    ok-branch (
+    again-open l (omega arith) (omega arith) (omega arith))
+    (stop-open l (omega arith) (omega arith) (omega arith)))))))))))))
 
 pub matchExpr-fresh : (start : ℕ) → Fresh (matchExpr start)
 unfolding matchExpr
-matchExpr-fresh start = fresh (λ c. then-alloc _ _ _ (omega arith) (λ u un uz. then-fresh (parseExpr-fresh _) (λ a ad al ah. then-push u a (one uz) (omega arith) (λ u1 u1n u1z. then-alloc-here _ _ (omega arith) (λ l ln lz. then-calm (expect-calm _) (λ _. then-loop (Open (l .node)) (λ y d g i. armTurn-ok y i) (open′ refl (omega arith) (omega arith)) (λ e ed el ei. then-calm (expect-calm _) (λ _. then-close e (then-push u1 (e .node) (later (omega arith)) (omega arith) (λ u2 u2n u2z. close-new u2 (omega arith) (omega arith)))))))))))
+matchExpr-fresh start =
+    fresh (λ c. then-alloc _ _ _ (omega arith) (λ u un uz.
+    then-fresh (parseExpr-fresh _) (λ a ad al ah.
+    then-push u a (one uz) (omega arith) (λ u1 u1n u1z.
+    then-alloc-here _ _ (omega arith) (λ l ln lz.
+    then-calm (expect-calm _) (λ _.
+    then-loop (Open (l .node)) (λ y d g i. armTurn-ok y i) (open′ refl (omega arith) (omega arith)) (λ e ed el ei.
+    then-calm (expect-calm _) (λ _.
+    then-close e (
+    then-push u1 (e .node) (later (omega arith)) (omega arith) (λ u2 u2n u2z.
+    close-new u2 (omega arith) (omega arith)))))))))))
 
 pub tryParseMatch-maybe : Maybe tryParseMatch
 unfolding tryParseMatch
@@ -116,67 +175,214 @@ tryParseMatch-maybe = maybe (λ c. then-calm calm-position (λ _. ok-eats _ (ok-
 
 pub anyType-fresh : Fresh anyType
 unfolding anyType
-anyType-fresh = fresh (λ c. then-calm calm-position (λ _. then-calm (expect-calm _) (λ _. then-calm (expect-calm _) (λ _. ok-branch (then-calm calm-intern (λ _. then-alloc _ _ _ (omega arith) (λ u un uz. close-new u (omega arith) (omega arith)))) (then-alloc _ _ _ (omega arith) (λ u un uz. close-new u (omega arith) (omega arith)))))))
+anyType-fresh =
+    fresh (λ c. then-calm calm-position (λ _.
+    then-calm (expect-calm _) (λ _.
+    then-calm (expect-calm _) (λ _.
+    ok-branch (
+    then-calm calm-intern (λ _.
+    then-alloc _ _ _ (omega arith) (λ u un uz.
+    close-new u (omega arith) (omega arith))))
+    (then-alloc _ _ _ (omega arith) (λ u un uz.
+    close-new u (omega arith) (omega arith)))))))
 
 pub parseParameter-ok : {n c : ℕ} (list : Unfinished) → Open n list c → Ok c (Elem (Open n) list) (parseParameter list)
 unfolding parseParameter parameterName
-parseParameter-ok list i = then-then (then-calm calm-position (λ _. then-then (then-calm (eat-calm _) (λ _. then-branch (then-then (then-alloc _ _ _ (omega arith) (λ p pn pz. then-then (then-fresh expectIdent-fresh (λ a ad al ah. then-then (then-push p a (one pz) (omega arith) (λ q qn qz. then-give (then-calm (expect-calm _) (λ _. then-then (then-calm (check-calm _) (λ _. then-branch (then-fresh anyType-fresh (λ t td tl th. then-push q t (later (omega arith)) (omega arith) (λ q1 q1n q1z. then-close q1 (then-push list (q1 .node) (later (omega arith)) (omega arith) (λ l ln lz. got-open list l (omega arith) (omega arith) (omega arith)))))) (then-fresh (parseExpr-fresh _) (λ t td tl th. then-push q t (later (omega arith)) (omega arith) (λ q1 q1n q1z. then-close q1 (then-push list (q1 .node) (later (omega arith)) (omega arith) (λ l ln lz. got-open list l (omega arith) (omega arith) (omega arith))))))))))))))))) (then-then (then-calm (eat-calm _) (λ _. then-branch (then-then (then-alloc _ _ _ (omega arith) (λ p pn pz. then-then (then-calm calm-intern (λ _. then-then (then-fresh (allocLastTokenAsNode-fresh _ _ (omega arith)) (λ a ad al ah. then-then (then-push p a (one pz) (omega arith) (λ q qn qz. then-give (then-calm (expect-calm _) (λ _. then-then (then-calm (check-calm _) (λ _. then-branch (then-fresh anyType-fresh (λ t td tl th. then-push q t (later (omega arith)) (omega arith) (λ q1 q1n q1z. then-close q1 (then-push list (q1 .node) (later (omega arith)) (omega arith) (λ l ln lz. got-open list l (omega arith) (omega arith) (omega arith)))))) (then-fresh (parseExpr-fresh _) (λ t td tl th. then-push q t (later (omega arith)) (omega arith) (λ q1 q1n q1z. then-close q1 (then-push list (q1 .node) (later (omega arith)) (omega arith) (λ l ln lz. got-open list l (omega arith) (omega arith) (omega arith))))))))))))))))))) (then-give (left-open list (omega arith) (omega arith) (omega arith))))))))))
+parseParameter-ok list i =
+    then-then (then-calm calm-position (λ _.
+    then-then (then-calm (eat-calm _) (λ _.
+    then-branch (
+    then-then (then-alloc _ _ _ (omega arith) (λ p pn pz.
+    then-then (then-fresh expectIdent-fresh (λ a ad al ah.
+    then-then (then-push p a (one pz) (omega arith) (λ q qn qz.
+    then-give (then-calm (expect-calm _) (λ _.
+    then-then (then-calm (check-calm _) (λ _.
+    then-branch (
+    then-fresh anyType-fresh (λ t td tl th.
+    then-push q t (later (omega arith)) (omega arith) (λ q1 q1n q1z.
+    then-close q1 (
+    then-push list (q1 .node) (later (omega arith)) (omega arith) (λ l ln lz.
+    got-open list l (omega arith) (omega arith) (omega arith))))))
+    (then-fresh (parseExpr-fresh _) (λ t td tl th.
+    then-push q t (later (omega arith)) (omega arith) (λ q1 q1n q1z.
+    then-close q1 (
+    then-push list (q1 .node) (later (omega arith)) (omega arith) (λ l ln lz.
+    got-open list l (omega arith) (omega arith) (omega arith)))))))))))))))))
+    (then-then (then-calm (eat-calm _) (λ _.
+    then-branch (
+    then-then (then-alloc _ _ _ (omega arith) (λ p pn pz.
+    then-then (then-calm calm-intern (λ _.
+    then-then (then-fresh (allocLastTokenAsNode-fresh _ _ (omega arith)) (λ a ad al ah.
+    then-then (then-push p a (one pz) (omega arith) (λ q qn qz.
+    then-give (then-calm (expect-calm _) (λ _.
+    then-then (then-calm (check-calm _) (λ _.
+    then-branch (
+    then-fresh anyType-fresh (λ t td tl th.
+    then-push q t (later (omega arith)) (omega arith) (λ q1 q1n q1z.
+    then-close q1 (
+    then-push list (q1 .node) (later (omega arith)) (omega arith) (λ l ln lz.
+    got-open list l (omega arith) (omega arith) (omega arith))))))
+    (then-fresh (parseExpr-fresh _) (λ t td tl th.
+    then-push q t (later (omega arith)) (omega arith) (λ q1 q1n q1z.
+    then-close q1 (
+    then-push list (q1 .node) (later (omega arith)) (omega arith) (λ l ln lz.
+    got-open list l (omega arith) (omega arith) (omega arith)))))))))))))))))))
+    (then-give (left-open list (omega arith) (omega arith) (omega arith))))))))))
 
 pub parseFunctionSignatureAndBody-ok : {n c : ℕ} (u : Unfinished) → Open n u c → Ok c (Open n) (parseFunctionSignatureAndBody u)
 unfolding parseFunctionSignatureAndBody
-parseFunctionSignatureAndBody-ok u i = then-alloc-here _ _ (omega arith) (λ l ln lz. then-delimited (Open (l .node)) _ _ _ _ _ (λ y d g j. parseParameter-ok y j) (open′ refl (omega arith) (omega arith)) (λ e ed el ei. then-close e (then-push u (e .node) (later (omega arith)) (omega arith) (λ u1 u1n u1z. then-fresh (parseExpr-fresh _) (λ t td tl th. then-push u1 t (later (omega arith)) (omega arith) (λ u2 u2n u2z. then-fresh blockHere-fresh (λ b bd bl bh. push-open u2 b (later (omega arith)) (omega arith) (omega arith) (omega arith))))))))
+parseFunctionSignatureAndBody-ok u i =
+    then-alloc-here _ _ (omega arith) (λ l ln lz.
+    then-delimited (Open (l .node)) _ _ _ _ _ (λ y d g j. parseParameter-ok y j) (open′ refl (omega arith) (omega arith)) (λ e ed el ei.
+    then-close e (
+    then-push u (e .node) (later (omega arith)) (omega arith) (λ u1 u1n u1z.
+    then-fresh (parseExpr-fresh _) (λ t td tl th.
+    then-push u1 t (later (omega arith)) (omega arith) (λ u2 u2n u2z.
+    then-fresh blockHere-fresh (λ b bd bl bh.
+    push-open u2 b (later (omega arith)) (omega arith) (omega arith) (omega arith))))))))
 
 pub parseFunctionDef-fresh : (start : ℕ) (eager : Bool) → Fresh (parseFunctionDef start eager)
 unfolding parseFunctionDef
-parseFunctionDef-fresh start eager = fresh (λ c. then-alloc _ _ _ (omega arith) (λ u un uz. ok-then (parseFunctionSignatureAndBody-ok u (open′ refl (omega arith) (omega arith))) (λ v vd vl vi. close-new v (omega arith) (omega arith))))
+parseFunctionDef-fresh start eager =
+    fresh (λ c. then-alloc _ _ _ (omega arith) (λ u un uz.
+    ok-then (parseFunctionSignatureAndBody-ok u (open′ refl (omega arith) (omega arith))) (λ v vd vl vi.
+    close-new v (omega arith) (omega arith))))
 
 pub parseMethodDef-fresh : Fresh parseMethodDef
 unfolding parseMethodDef
-parseMethodDef-fresh = fresh (λ c. then-calm calm-position (λ _. then-calm (eat-calm _) (λ _. then-calm (expect-calm _) (λ _. then-alloc _ _ _ (omega arith) (λ u un uz. then-fresh expectIdent-fresh (λ a ad al ah. then-push u a (one uz) (omega arith) (λ u1 u1n u1z. ok-then (parseFunctionSignatureAndBody-ok u1 (open′ refl (omega arith) (omega arith))) (λ v vd vl vi. close-new v (omega arith) (omega arith)))))))))
+parseMethodDef-fresh =
+    fresh (λ c. then-calm calm-position (λ _.
+    then-calm (eat-calm _) (λ _.
+    then-calm (expect-calm _) (λ _.
+    then-alloc _ _ _ (omega arith) (λ u un uz.
+    then-fresh expectIdent-fresh (λ a ad al ah.
+    then-push u a (one uz) (omega arith) (λ u1 u1n u1z.
+    ok-then (parseFunctionSignatureAndBody-ok u1 (open′ refl (omega arith) (omega arith))) (λ v vd vl vi.
+    close-new v (omega arith) (omega arith)))))))))
 
 pub parseStructField-fresh : Fresh parseStructField
-unfolding parseStructField pushOption
-parseStructField-fresh = fresh (λ c. then-alloc-here _ _ (omega arith) (λ u un uz. then-maybe tryParseIdent-maybe (λ m md ml mh. then-push u m (one uz) (omega arith) (λ u1 u1n u1z. then-calm (expect-calm _) (λ _. then-fresh (parseExpr-fresh _) (λ t td tl th. then-push u1 t (later (omega arith)) (omega arith) (λ u2 u2n u2z. close-new u2 (omega arith) (omega arith)))))) (λ me mm. then-give (then-calm (expect-calm _) (λ _. then-fresh (parseExpr-fresh _) (λ t td tl th. then-push u t (one uz) (omega arith) (λ u2 u2n u2z. close-new u2 (omega arith) (omega arith))))))))
+unfolding parseStructField
+parseStructField-fresh =
+    fresh (λ c. then-alloc-here _ _ (omega arith) (λ u un uz.
+    ok-then (tryParseIdent-maybe .maybe _) (λ m md ml mi.
+    then-option {n = u .node} u m (waiting mi (omega arith) (omega arith)) (omega arith) (omega arith) (λ v vn vz.
+    then-calm (expect-calm _) (λ _.
+    then-fresh (parseExpr-fresh _) (λ t td tl th.
+    then-push v t (later (omega arith)) (omega arith) (λ w wn wz.
+    close-new w (omega arith) (omega arith))))))))
 
 pub fieldTurn-ok : {n c : ℕ} (s : Members) → Open n (s .body) c → Ok c (Goes (λ (m : Members) d. Open n (m .body) d)) (fieldTurn s)
 unfolding fieldTurn
-fieldTurn-ok s i = then-calm (calm-branch (calm-then calm-here (λ _. calm-emit)) calm-give) (λ _. then-fresh parseStructField-fresh (λ a ad al ah. then-push (s .body) a (later (omega arith)) (omega arith) (λ b bn bz. then-calm calm-peek (λ _. ok-branch (ok-give (goes (open′ (omega arith) (omega arith) (omega arith)))) (then-calm (expectCheckRecovery-calm _ _) (λ _. ok-give (goes (open′ (omega arith) (omega arith) (omega arith)))))))))
+fieldTurn-ok s i =
+    then-calm (calm-branch (calm-then calm-here (λ _. calm-emit)) calm-give) (λ _.
+    then-fresh parseStructField-fresh (λ a ad al ah.
+    then-push (s .body) a (later (omega arith)) (omega arith) (λ b bn bz.
+    then-calm calm-peek (λ _.
+    ok-branch (
+    ok-give (goes (open′ (omega arith) (omega arith) (omega arith))))
+    (then-calm (expectCheckRecovery-calm _ _) (λ _.
+    ok-give (goes (open′ (omega arith) (omega arith) (omega arith)))))))))
 
 pub methodTurn-ok : {n c : ℕ} (s : Members) → Open n (s .body) c → Ok c (Goes (λ (m : Members) d. Open n (m .body) d)) (methodTurn s)
 unfolding methodTurn
-methodTurn-ok s i = then-fresh parseMethodDef-fresh (λ a ad al ah. then-push (s .body) a (later (omega arith)) (omega arith) (λ b bn bz. ok-give (goes (open′ (omega arith) (omega arith) (omega arith)))))
+methodTurn-ok s i =
+    then-fresh parseMethodDef-fresh (λ a ad al ah.
+    then-push (s .body) a (later (omega arith)) (omega arith) (λ b bn bz.
+    ok-give (goes (open′ (omega arith) (omega arith) (omega arith)))))
 
 pub noMemberTurn-ok : {n c : ℕ} (s : Members) → Open n (s .body) c → Ok c (Goes (λ (m : Members) d. Open n (m .body) d)) (noMemberTurn s)
 unfolding noMemberTurn
-noMemberTurn-ok s i = then-calm emitUnexpected-calm (λ _. then-alloc-here _ _ (omega arith) (λ e en ez. then-calm calm-pass (λ _. then-calm (skipUntilRecoveryToken-calm _) (λ _. then-close e (then-push (s .body) (e .node) (later (omega arith)) (omega arith) (λ b bn bz. ok-give (goes (open′ (omega arith) (omega arith) (omega arith)))))))))
+noMemberTurn-ok s i =
+    then-calm emitUnexpected-calm (λ _.
+    then-alloc-here _ _ (omega arith) (λ e en ez.
+    then-calm calm-pass (λ _.
+    then-calm (skipUntilRecoveryToken-calm _) (λ _.
+    then-close e (
+    then-push (s .body) (e .node) (later (omega arith)) (omega arith) (λ b bn bz.
+    ok-give (goes (open′ (omega arith) (omega arith) (omega arith)))))))))
 
 pub memberTurn-ok : {n c : ℕ} (s : Members) → Open n (s .body) c → Ok c (Goes (λ (m : Members) d. Open n (m .body) d)) (memberTurn s)
 unfolding memberTurn
-memberTurn-ok s i = then-calm eof-calm (λ _. then-calm (check-calm _) (λ _. ok-branch (ok-give (ends i)) (then-calm (check-calm _) (λ _. then-calm (check-calm _) (λ _. ok-branch (methodTurn-ok s i) (then-calm (check-calm _) (λ _. ok-branch (fieldTurn-ok s i) (noMemberTurn-ok s i))))))))
+memberTurn-ok s i =
+    then-calm eof-calm (λ _.
+    then-calm (check-calm _) (λ _.
+    ok-branch (
+    ok-give (ends i))
+    (then-calm (check-calm _) (λ _.
+    then-calm (check-calm _) (λ _.
+    ok-branch (
+    methodTurn-ok s i)
+    (then-calm (check-calm _) (λ _.
+    ok-branch (
+    fieldTurn-ok s i)
+    (noMemberTurn-ok s i))))))))
 
 pub parseStructDef-fresh : (start : ℕ) → Fresh (parseStructDef start)
-unfolding parseStructDef pushOption
-parseStructDef-fresh start = fresh (λ c. then-alloc _ _ _ (omega arith) (λ u un uz. then-then (then-calm (check-calm _) (λ _. then-branch (then-give (then-give (then-alloc-here _ _ (omega arith) (λ l ln lz. then-calm (expect-calm _) (λ _. then-loop (λ (m : Members) d. Open (l .node) (m .body) d) (λ y d g i. memberTurn-ok y i) (open′ refl (omega arith) (omega arith)) (λ s sd sl si. then-calm (expect-calm _) (λ _. then-close (s .body) (then-push u (s .body .node) (one uz) (omega arith) (λ w wn wz. close-new w (omega arith) (omega arith)))))))))) (then-maybe (tryParseExpr-maybe _) (λ m md ml mh. then-push u m (one uz) (omega arith) (λ u1 u1n u1z. then-alloc-here _ _ (omega arith) (λ l ln lz. then-calm (expect-calm _) (λ _. then-loop (λ (m : Members) d. Open (l .node) (m .body) d) (λ y d g i. memberTurn-ok y i) (open′ refl (omega arith) (omega arith)) (λ s sd sl si. then-calm (expect-calm _) (λ _. then-close (s .body) (then-push u1 (s .body .node) (later (omega arith)) (omega arith) (λ w wn wz. close-new w (omega arith) (omega arith))))))))) (λ me mm. then-give (then-alloc-here _ _ (omega arith) (λ l ln lz. then-calm (expect-calm _) (λ _. then-loop (λ (m : Members) d. Open (l .node) (m .body) d) (λ y d g i. memberTurn-ok y i) (open′ refl (omega arith) (omega arith)) (λ s sd sl si. then-calm (expect-calm _) (λ _. then-close (s .body) (then-push u (s .body .node) (one uz) (omega arith) (λ w wn wz. close-new w (omega arith) (omega arith))))))))))))))
+unfolding parseStructDef
+parseStructDef-fresh start =
+    fresh (λ c. then-alloc _ _ _ (omega arith) (λ u un uz.
+    ok-then (then-calm (check-calm _) (λ _. ok-branch give-nothing (tryParseExpr-maybe _ .maybe _))) (λ m md ml mi.
+    then-option {n = u .node} u m (waiting mi (omega arith) (omega arith)) (omega arith) (omega arith) (λ v vn vz.
+    then-alloc-here _ _ (omega arith) (λ l ln lz.
+    then-calm (expect-calm _) (λ _.
+    then-loop (λ (m : Members) d. Open (l .node) (m .body) d) (λ y d g i. memberTurn-ok y i) (open′ refl (omega arith) (omega arith)) (λ s sd sl si.
+    then-calm (expect-calm _) (λ _.
+    then-close (s .body) (
+    then-push v (s .body .node) (later (omega arith)) (omega arith) (λ w wn wz.
+    close-new w (omega arith) (omega arith)))))))))))
 
 pub exprElement-ok : {n c : ℕ} (list : Unfinished) → Open n list c → Ok c (Elem (Open n) list) (exprElement list)
 unfolding exprElement
-exprElement-ok list i = then-maybe (tryParseExpr-maybe _) (λ a ad al ah. then-push list a (later (omega arith)) (omega arith) (λ l ln lz. got-open list l (omega arith) (omega arith) (omega arith))) (λ ae am. left-open list (omega arith) (omega arith) (omega arith))
+exprElement-ok list i =
+    then-maybe (tryParseExpr-maybe _) (λ a ad al ah.
+    then-push list a (later (omega arith)) (omega arith) (λ l ln lz.
+    got-open list l (omega arith) (omega arith) (omega arith)))
+    (λ ae am. left-open list (omega arith) (omega arith) (omega arith))
 
 pub parseTupleType-fresh : (start : ℕ) → Fresh (parseTupleType start)
 unfolding parseTupleType
-parseTupleType-fresh start = fresh (λ c. then-alloc _ _ _ (omega arith) (λ u un uz. then-delimited (Open (u .node)) _ _ _ _ _ (λ y d g j. exprElement-ok y j) (open′ refl (omega arith) (omega arith)) (λ e ed el ei. close-new e (omega arith) (omega arith))))
+parseTupleType-fresh start =
+    fresh (λ c. then-alloc _ _ _ (omega arith) (λ u un uz.
+    then-delimited (Open (u .node)) _ _ _ _ _ (λ y d g j. exprElement-ok y j) (open′ refl (omega arith) (omega arith)) (λ e ed el ei.
+    close-new e (omega arith) (omega arith))))
 
 pub tupleTurn-ok : {n c : ℕ} (u : Unfinished) → Open n u c → Ok c (Goes (Open n)) (tupleTurn u)
 unfolding tupleTurn
-tupleTurn-ok u i = then-calm (check-calm _) (λ _. ok-branch (stop-open u (omega arith) (omega arith) (omega arith)) (then-fresh (parseExpr-fresh _) (λ a ad al ah. then-push u a (later (omega arith)) (omega arith) (λ v vn vz. then-calm (eat-calm _) (λ _. ok-branch (again-open v (omega arith) (omega arith) (omega arith)) (stop-open v (omega arith) (omega arith) (omega arith)))))))
+tupleTurn-ok u i =
+    then-calm (check-calm _) (λ _.
+    ok-branch (
+    stop-open u (omega arith) (omega arith) (omega arith))
+    (then-fresh (parseExpr-fresh _) (λ a ad al ah.
+    then-push u a (later (omega arith)) (omega arith) (λ v vn vz.
+    then-calm (eat-calm _) (λ _.
+    ok-branch (
+    again-open v (omega arith) (omega arith) (omega arith))
+    (stop-open v (omega arith) (omega arith) (omega arith)))))))
 
 pub parenOrTuple-fresh : (start : ℕ) → Fresh (parenOrTuple start)
 unfolding parenOrTuple
-parenOrTuple-fresh start = fresh (λ c. then-calm (eat-calm _) (λ _. ok-branch (then-alloc _ _ _ (omega arith) (λ u un uz. close-new u (omega arith) (omega arith))) (then-alloc _ _ _ (omega arith) (λ u un uz. then-fresh (parseExpr-fresh _) (λ a ad al ah. then-push u a (one uz) (omega arith) (λ v vn vz. then-then (then-calm (eat-calm _) (λ _. then-branch (then-then (then-calm (calm-updateKind _ _ _ (omega arith)) (λ _. then-loop (Open (u .node)) (λ y d g i. tupleTurn-ok y i) (open′ (omega arith) (omega arith) (omega arith)) (λ e ed el ei. then-calm (expect-calm _) (λ _. close-new e (omega arith) (omega arith)))))) (then-give (then-calm (expect-calm _) (λ _. close-new v (omega arith) (omega arith))))))))))))
+parenOrTuple-fresh start =
+    fresh (λ c. then-calm (eat-calm _) (λ _.
+    ok-branch (
+    then-alloc _ _ _ (omega arith) (λ u un uz.
+    close-new u (omega arith) (omega arith)))
+    (then-alloc _ _ _ (omega arith) (λ u un uz.
+    then-fresh (parseExpr-fresh _) (λ a ad al ah.
+    then-push u a (one uz) (omega arith) (λ v vn vz.
+    ok-then {R = Open (u .node)} (then-calm (eat-calm _) (λ _.
+    ok-branch (
+    then-calm (calm-updateKind _ _ _ (omega arith)) (λ _.
+    ok-loop (Open (u .node)) (open′ (omega arith) (omega arith) (omega arith)) (λ y d g i. tupleTurn-ok y i)))
+    (give-open v (omega arith) (omega arith) (omega arith))))
+    (λ w wd wl wi.
+    then-calm (expect-calm _) (λ _.
+    close-new w (omega arith) (omega arith)))))))))
 
 pub numLiteral-maybe : Maybe numLiteral
 unfolding numLiteral
-numLiteral-maybe = maybe (λ c. then-calm tryParseNumLiteral-calm (λ o. ok-option o (λ _. then-fresh (allocLastTokenAsNode-fresh _ _ (omega arith)) (λ a d l h. give-newer l h)) give-nothing))
+numLiteral-maybe =
+    maybe (λ c. then-calm tryParseNumLiteral-calm (λ o.
+    ok-option o (λ _. then-fresh (allocLastTokenAsNode-fresh _ _ (omega arith)) (λ a d l h. give-newer l h)) give-nothing))
 
 pub eagerFunction-fresh : (start : ℕ) → Fresh (eagerFunction start)
 unfolding eagerFunction
@@ -184,31 +390,90 @@ eagerFunction-fresh start = fresh (λ c. then-calm (expect-calm _) (λ _. ok-fre
 
 pub tryParseStandaloneExpr-maybe : Maybe tryParseStandaloneExpr
 unfolding tryParseStandaloneExpr
-tryParseStandaloneExpr-maybe = maybe (λ c. then-calm calm-position (λ start. ok-maybe (or-maybe (eats-maybe _ _ (allocLastTokenAsNode-fresh _ _ (omega arith))) (or-maybe (eats-maybe _ _ (allocLastTokenAsNode-fresh _ _ (omega arith))) (or-maybe (numLiteral-maybe) (or-maybe (tryParseStringLiteral-maybe) (or-maybe (eats-maybe _ _ (allocLastTokenAsNode-fresh _ _ (omega arith))) (or-maybe (tryParseIdent-maybe) (or-maybe (tryParseBuiltinName-maybe) (or-maybe (eats-maybe _ _ (parenOrTuple-fresh start)) (or-maybe (eats-maybe _ _ (fresh-block (omega arith))) (or-maybe (eats-maybe _ _ (eagerFunction-fresh start)) (or-maybe (eats-maybe _ _ (parseFunctionDef-fresh start false)) (or-maybe (eats-maybe _ _ (parseStructDef-fresh start)) (or-maybe (eats-maybe _ _ (parseTupleType-fresh start)) (or-maybe (checks-maybe _ _ blockHere-fresh) (or-maybe (tryParseConditional-maybe) (tryParseMatch-maybe)))))))))))))))) (omega arith)))
+tryParseStandaloneExpr-maybe =
+    maybe (λ c. then-calm calm-position (λ start. ok-maybe (
+    or-maybe (eats-maybe _ _ (allocLastTokenAsNode-fresh _ _ (omega arith))) (
+    or-maybe (eats-maybe _ _ (allocLastTokenAsNode-fresh _ _ (omega arith))) (
+    or-maybe (numLiteral-maybe) (
+    or-maybe (tryParseStringLiteral-maybe) (
+    or-maybe (eats-maybe _ _ (allocLastTokenAsNode-fresh _ _ (omega arith))) (
+    or-maybe (tryParseIdent-maybe) (
+    or-maybe (tryParseBuiltinName-maybe) (
+    or-maybe (eats-maybe _ _ (parenOrTuple-fresh start)) (
+    or-maybe (eats-maybe _ _ (fresh-block (omega arith))) (
+    or-maybe (eats-maybe _ _ (eagerFunction-fresh start)) (
+    or-maybe (eats-maybe _ _ (parseFunctionDef-fresh start false)) (
+    or-maybe (eats-maybe _ _ (parseStructDef-fresh start)) (
+    or-maybe (eats-maybe _ _ (parseTupleType-fresh start)) (
+    or-maybe (checks-maybe _ _ blockHere-fresh) (
+    or-maybe (tryParseConditional-maybe) (tryParseMatch-maybe)))))))))))))))) (omega arith)))
 
 pub accessName-fresh : Fresh accessName
 unfolding accessName
-accessName-fresh = fresh (λ c. then-maybe tryParseIdent-maybe (λ m md ml mh. give-new (omega arith) (omega arith)) (λ me mm. then-calm emitUnexpected-calm (λ _. then-alloc-here _ _ (omega arith) (λ u un uz. then-calm calm-peek (λ _. then-calm (calm-branch calm-pass calm-give) (λ _. close-new u (omega arith) (omega arith)))))))
+accessName-fresh =
+    fresh (λ c. then-maybe tryParseIdent-maybe (λ m md ml mh.
+    give-new (omega arith) (omega arith))
+    (λ me mm. then-calm emitUnexpected-calm (λ _.
+    then-alloc-here _ _ (omega arith) (λ u un uz.
+    then-calm calm-peek (λ _.
+    then-calm (calm-branch calm-pass calm-give) (λ _.
+    close-new u (omega arith) (omega arith)))))))
 
 pub memberExpr-new : {b c : ℕ} (start expr : ℕ) → expr < c → b ≤ c → Ok c (New b) (memberExpr start expr)
 unfolding memberExpr
-memberExpr-new start expr l g = then-alloc _ _ _ (omega arith) (λ u un uz. then-push u expr (one uz) (omega arith) (λ v vn vz. then-fresh accessName-fresh (λ a ad al ah. then-push v a (later (omega arith)) (omega arith) (λ w wn wz. close-new w (omega arith) (omega arith)))))
+memberExpr-new start expr l g =
+    then-alloc _ _ _ (omega arith) (λ u un uz.
+    then-push u expr (one uz) (omega arith) (λ v vn vz.
+    then-fresh accessName-fresh (λ a ad al ah.
+    then-push v a (later (omega arith)) (omega arith) (λ w wn wz.
+    close-new w (omega arith) (omega arith)))))
 
 pub callExpr-new : {b c : ℕ} (start expr : ℕ) → expr < c → b ≤ c → Ok c (New b) (callExpr start expr)
 unfolding callExpr
-callExpr-new start expr l g = then-alloc _ _ _ (omega arith) (λ u un uz. then-push u expr (one uz) (omega arith) (λ v vn vz. then-delimited (Open (u .node)) _ _ _ _ _ (λ y d g j. exprElement-ok y j) (open′ (omega arith) (omega arith) (omega arith)) (λ e ed el ei. close-new e (omega arith) (omega arith))))
+callExpr-new start expr l g =
+    then-alloc _ _ _ (omega arith) (λ u un uz.
+    then-push u expr (one uz) (omega arith) (λ v vn vz.
+    then-delimited (Open (u .node)) _ _ _ _ _ (λ y d g j. exprElement-ok y j) (open′ (omega arith) (omega arith) (omega arith)) (λ e ed el ei.
+    close-new e (omega arith) (omega arith))))
 
 pub fieldAssign-ok : {n c : ℕ} (list : Unfinished) → Open n list c → Ok c (Elem (Open n) list) (fieldAssign list)
-unfolding fieldAssign pushOption
-fieldAssign-ok list i = then-calm (check-calm _) (λ _. ok-branch (then-alloc-here _ _ (omega arith) (λ u un uz. then-maybe tryParseIdent-maybe (λ m md ml mh. then-push u m (one uz) (omega arith) (λ u1 u1n u1z. then-calm (expect-calm _) (λ _. then-fresh (parseExpr-fresh _) (λ t td tl th. then-push u1 t (later (omega arith)) (omega arith) (λ u2 u2n u2z. then-close u2 (then-push list (u2 .node) (later (omega arith)) (omega arith) (λ l ln lz. got-open list l (omega arith) (omega arith) (omega arith)))))))) (λ me mm. then-give (then-calm (expect-calm _) (λ _. then-fresh (parseExpr-fresh _) (λ t td tl th. then-push u t (one uz) (omega arith) (λ u2 u2n u2z. then-close u2 (then-push list (u2 .node) (later (omega arith)) (omega arith) (λ l ln lz. got-open list l (omega arith) (omega arith) (omega arith)))))))))) (left-open list (omega arith) (omega arith) (omega arith)))
+unfolding fieldAssign
+fieldAssign-ok list i =
+    then-calm (check-calm _) (λ _.
+    ok-branch (
+    then-alloc-here _ _ (omega arith) (λ u un uz.
+    ok-then (tryParseIdent-maybe .maybe _) (λ m md ml mi.
+    then-option {n = u .node} u m (waiting mi (omega arith) (omega arith)) (omega arith) (omega arith) (λ v vn vz.
+    then-calm (expect-calm _) (λ _.
+    then-fresh (parseExpr-fresh _) (λ t td tl th.
+    then-push v t (later (omega arith)) (omega arith) (λ w wn wz.
+    then-close w (
+    then-push list (w .node) (later (omega arith)) (omega arith) (λ l ln lz.
+    got-open list l (omega arith) (omega arith) (omega arith))))))))))
+    (left-open list (omega arith) (omega arith) (omega arith)))
 
 pub structLit-new : {b c : ℕ} (start expr : ℕ) → expr < c → b ≤ c → Ok c (New b) (structLit start expr)
 unfolding structLit
-structLit-new start expr l g = then-alloc _ _ _ (omega arith) (λ u un uz. then-push u expr (one uz) (omega arith) (λ v vn vz. then-delimited (Open (u .node)) _ _ _ _ _ (λ y d g j. fieldAssign-ok y j) (open′ (omega arith) (omega arith) (omega arith)) (λ e ed el ei. close-new e (omega arith) (omega arith))))
+structLit-new start expr l g =
+    then-alloc _ _ _ (omega arith) (λ u un uz.
+    then-push u expr (one uz) (omega arith) (λ v vn vz.
+    then-delimited (Open (u .node)) _ _ _ _ _ (λ y d g j. fieldAssign-ok y j) (open′ (omega arith) (omega arith) (omega arith)) (λ e ed el ei.
+    close-new e (omega arith) (omega arith))))
 
 pub binaryExpr-new : {b c : ℕ} (mode : Mode) (start expr : ℕ) (op : Binary) → expr < c → b ≤ c → Ok c (New b) (binaryExpr mode start expr op)
 unfolding binaryExpr unwrapOrError
-binaryExpr-new mode start expr op l g = then-alloc-here _ _ (omega arith) (λ o on oz. then-calm calm-pass (λ _. then-close o (then-alloc _ _ _ (omega arith) (λ u un uz. then-push u expr (one uz) (omega arith) (λ u1 u1n u1z. then-push u1 (o .node) (later (omega arith)) (omega arith) (λ u2 u2n u2z. then-maybe maybe-expr (λ m md ml mh. then-give (then-push u2 m (later (omega arith)) (omega arith) (λ w wn wz. close-new w (omega arith) (omega arith)))) (λ me mm. then-fresh unwrapOrError-fresh (λ x xd xl xh. then-push u2 x (later (omega arith)) (omega arith) (λ w wn wz. close-new w (omega arith) (omega arith))))))))))
+binaryExpr-new mode start expr op l g =
+    then-alloc-here _ _ (omega arith) (λ o on oz.
+    then-calm calm-pass (λ _.
+    then-close o (
+    then-alloc _ _ _ (omega arith) (λ u un uz.
+    then-push u expr (one uz) (omega arith) (λ u1 u1n u1z.
+    then-push u1 (o .node) (later (omega arith)) (omega arith) (λ u2 u2n u2z.
+    then-maybe maybe-expr (λ m md ml mh.
+    then-give (then-push u2 m (later (omega arith)) (omega arith) (λ w wn wz.
+    close-new w (omega arith) (omega arith))))
+    (λ me mm. then-fresh unwrapOrError-fresh (λ x xd xl xh. then-push u2 x (later (omega arith)) (omega arith) (λ w wn wz.
+    close-new w (omega arith) (omega arith))))))))))
 
 pub binaryStep-new : {b c : ℕ} (mode : Mode) (min start expr : ℕ) → expr < c → b ≤ c → Ok c (Newer b) (binaryStep mode min start expr)
 unfolding binaryStep
@@ -223,7 +488,15 @@ exprTurn-ok mode min start expr i g =
 
 pub unaryExpr-maybe : (mode : Mode) (start op : ℕ) → Maybe (unaryExpr mode start op)
 unfolding unaryExpr unwrapOrError
-unaryExpr-maybe mode start op = maybe (λ c. then-alloc _ _ _ (omega arith) (λ u un uz. then-maybe maybe-expr (λ m md ml mh. then-give (then-push u m (one uz) (omega arith) (λ w wn wz. then-close w (give-newer (omega arith) (omega arith))))) (λ me mm. then-fresh unwrapOrError-fresh (λ x xd xl xh. then-push u x (one uz) (omega arith) (λ w wn wz. then-close w (give-newer (omega arith) (omega arith)))))))
+unaryExpr-maybe mode start op =
+    maybe (λ c. then-alloc _ _ _ (omega arith) (λ u un uz.
+    then-maybe maybe-expr (λ m md ml mh.
+    then-give (then-push u m (one uz) (omega arith) (λ w wn wz.
+    then-close w (
+    give-newer (omega arith) (omega arith)))))
+    (λ me mm. then-fresh unwrapOrError-fresh (λ x xd xl xh. then-push u x (one uz) (omega arith) (λ w wn wz.
+    then-close w (
+    give-newer (omega arith) (omega arith)))))))
 
 pub tryParseExprMinBp-maybe : (mode : Mode) (min : ℕ) → Maybe (tryParseExprMinBp mode min)
 unfolding tryParseExprMinBp

@@ -1,11 +1,11 @@
 -- What a program does with nodes: where the words are sound before, they are sound after, and what it answers is told by the count of nodes.
-use mathlib.Core.Path.{_≡_, refl, sym, _∙_, ap}
+use mathlib.Core.Path.{_≡_, refl, _∙_, ap}
 use mathlib.Core.Bool.{Bool, true, false, cond, _&&_}
 use mathlib.Core.Option.{Option, none, some}
 use mathlib.Core.List.{List}
-use Prim.Native.Nat.{ℕ, zero, suc, _+_, _-_, _*_, _≤_, _<_}
+use Prim.Native.Nat.{ℕ, zero, suc, _+_, _*_, _≤_, _<_}
 use native.Mathlib.Omega.{arith}
-use borrow.Author.Tests.{ltb-true, leb-true, eqb-true, eqb-false}
+use borrow.Author.Tests.{ltb-true, leb-true, eqb-false}
 use lib.Dec.{eqb, ltb, leb}
 use lib.ListN.{length, set}
 use lib.Seq.{sets}
@@ -19,9 +19,8 @@ use Rattle.literals.specs.declared.Span.{Span}
 use Rattle.literals.specs.Spelling as Source
 use Rattle.definition.specs.declared.State.{State}
 use Rattle.definition.specs.declared.Mode.{Mode}
-use Rattle.definition.specs.declared.Unfinished.{Unfinished}
-use Rattle.definition.specs.Prog.{Turn, again, stop, Prog, Give, Then, Branch, Loop, peek, pass, position, here, before, spelling, intern, marked, emit, emitAndMark, alloc, closeAt, closeAtStart, setKind, link, kindOf, value, enterExpr, enterBlock, Memory, memory, Out, done, refused, bind, withCursor, advanced, reported, isMarked, markedHere, lastNode, allocated, wordOf, stored, linked, headWord, endWord, nextWord, childWord, firstWord, valued, iter, Readers, kindAt, passed, skipped, skipTrivia, eval}
-use Rattle.rising.specs.Sound.{Next, last, rises, Sound, Fits, head-kind, set-sound, alloc-sound}
+use Rattle.definition.specs.Prog.{Turn, again, stop, Prog, Give, Then, Branch, Loop, peek, pass, position, here, before, spelling, intern, marked, emit, emitAndMark, alloc, closeAt, closeAtStart, setKind, link, kindOf, value, Memory, memory, Out, done, refused, bind, withCursor, advanced, reported, isMarked, markedHere, lastNode, allocated, stored, linked, headWord, endWord, nextWord, childWord, valued, iter, Readers, kindAt, passed, skipped, eval}
+use Rattle.rising.specs.Sound.{last, rises, Sound, Fits, head-kind, set-sound, alloc-sound}
 
 -- An outcome: refused, or with sound words of so many nodes, no fewer than before, and Q of what is answered and of their number.
 pub data Lands {A : Type 0} (c : ℕ) (Q : A → ℕ → Type 0) : Out A → Type 0 where
@@ -287,7 +286,7 @@ unfolding eval allocated
 ok-alloc {c} {start} {kind} {payload} k =
     record {
       run = λ text tokens bound r g s m e w. one-lands (ltb (s .nodes) lastNode && leb (nodeWidth * s .nodes + nodeWidth) (length (m .nodes)))
-      (λ q. lands (c + 1) (ap (λ (x : ℕ). x + 1) e) (omega arith) (made s m e w (leb-true _ _ (and-right (ltb (s .nodes) lastNode) _ q))) (e, refl)) halts;
+          (λ q. lands (c + 1) (ap (λ (x : ℕ). x + 1) e) (omega arith) (made s m e w (leb-true _ _ (and-right (ltb (s .nodes) lastNode) _ q))) (e, refl)) halts;
     }
   where
     made : (s : State) (m : Memory) → s .nodes ≡ c → Sound (m .nodes) c → nodeWidth * s .nodes + nodeWidth ≤ length (m .nodes)

@@ -1,18 +1,16 @@
 -- The readers' programs, gone through: statements and blocks.
-use mathlib.Core.Path.{_≡_, refl}
-use mathlib.Core.Bool.{Bool, true, false}
-use mathlib.Core.Option.{Option, none, some}
-use Prim.Native.Nat.{ℕ, _+_, _≤_, _<_}
+use mathlib.Core.Path.{refl}
+use mathlib.Core.Bool.{Bool, true}
+use mathlib.Core.Option.{Option}
+use Prim.Native.Nat.{ℕ, _≤_, _<_}
 use native.Mathlib.Omega.{arith}
 use Rattle.words.specs.Node
 use Rattle.definition.specs.declared.Unfinished.{Unfinished}
-use Rattle.definition.specs.Prog.{Turn, again, stop, Prog, Act, Give, Then, Branch, Loop}
-use Rattle.definition.specs.Expressions.{pushOption}
-use Rattle.definition.specs.Statements.{statement, endExprOrStmt, endExpr, nothing as nothing′, StmtResult, Body, body, tryParseWhile, parseLetStmt, returnStmt, letStmt, comptimeStmt, assignStmt, exprStmt, tryParseStmt, endExprTurn, stmtTurn, parseBlock}
-use Rattle.rising.specs.Rules.{New, Newer, Ok, Calm, Fresh, Maybe, Goes, goes, ends, ok-then, then-give, then-branch, then-calm, then-then, ok-give, ok-branch, calm-peek, calm-pass, calm-position, calm-here, calm-before, calm-emit, calm-kindOf, one, later}
-use Rattle.rising.specs.Steps.{new, Open, open′, then-alloc, then-alloc-here, then-push, then-close, then-fresh, then-maybe, then-loop, ok-fresh, ok-maybe, fresh, maybe, calm-give, calm-then, calm-branch, calm-loop, calm-updateKind, fresh-block, close-new, give-new, give-newer, give-nothing, again-open, stop-open, Elem, got, left, ok-newer, Waits, idle, waits, Both, both-idle, both-waits}
-use Rattle.rising.specs.Programs.{check-calm, eat-calm, eof-calm, emitUnexpected-calm, skipUntilRecoveryToken-calm, expect-calm, expectIdent-fresh, tryParseExpr-maybe, parseExpr-fresh, whileStmt-fresh}
-use Rattle.rising.specs.Readers.{then-closing, ok-eats}
+use Rattle.definition.specs.Prog.{Prog, Then}
+use Rattle.definition.specs.Statements.{whileStmt, statement, endExprOrStmt, endExpr, nothing as nothing′, StmtResult, Body, body, tryParseWhile, parseLetStmt, returnStmt, letStmt, comptimeStmt, assignStmt, exprStmt, tryParseStmt, endExprTurn, stmtTurn, parseBlock}
+use Rattle.rising.specs.Rules.{Ok, Fresh, Maybe, Goes, goes, ends, ok-then, then-calm, ok-give, ok-branch, calm-peek, calm-pass, calm-position, calm-before, calm-emit, calm-kindOf, one, later}
+use Rattle.rising.specs.Steps.{Open, open′, then-alloc, then-alloc-here, then-push, then-close, then-fresh, then-maybe, then-loop, ok-fresh, fresh, maybe, calm-give, calm-branch, calm-updateKind, fresh-block, close-new, give-newer, push-open, give-open, Waits, waits-on, then-option, then-closing, Both, both-idle, both-waits}
+use Rattle.rising.specs.Programs.{check-calm, eat-calm, eof-calm, emitUnexpected-calm, skipUntilRecoveryToken-calm, expect-calm, expectIdent-fresh, tryParseExpr-maybe, parseExpr-fresh, blockHere-fresh, ok-eats}
 
 -- A statement that was read, and how it ends.
 pub data Result (b : ℕ) : StmtResult → ℕ → Type 0 where
@@ -31,17 +29,55 @@ then-result {A} {b} {c} {Q} {p} {f} x h i j k = ok-then x go
     go (endExprOrStmt a) d l (is-either m n) = j a d l m n
     go (endExpr a) d l (is-end m n) = k a d l m n
 
+whileStmt-fresh : (start kind : ℕ) → kind ≤ Node.Error → Fresh (whileStmt start kind)
+unfolding whileStmt
+whileStmt-fresh start kind k =
+    fresh (λ c. then-alloc _ _ _ k (λ u un uz.
+    then-fresh (parseExpr-fresh _) (λ a ad al ah.
+    then-push u a (one uz) (omega arith) (λ v vn vz.
+    then-fresh blockHere-fresh (λ b bd bl bh.
+    then-push v b (later (omega arith)) (omega arith) (λ w wn wz.
+    close-new w (omega arith) (omega arith)))))))
+
 tryParseWhile-maybe : (start : ℕ) → Maybe (tryParseWhile start)
 unfolding tryParseWhile
-tryParseWhile-maybe start = maybe (λ c. then-calm (eat-calm _) (λ _. ok-branch (then-calm (expect-calm _) (λ _. then-fresh (whileStmt-fresh start _ (omega arith)) (λ a ad al ah. give-newer (omega arith) (omega arith)))) (ok-eats _ (ok-fresh (whileStmt-fresh start _ (omega arith)) (omega arith)))))
+tryParseWhile-maybe start =
+    maybe (λ c. then-calm (eat-calm _) (λ _.
+    ok-branch (
+    then-calm (expect-calm _) (λ _.
+    then-fresh (whileStmt-fresh start _ (omega arith)) (λ a ad al ah.
+    give-newer (omega arith) (omega arith))))
+    (ok-eats _ (ok-fresh (whileStmt-fresh start _ (omega arith)) (omega arith)))))
 
 parseLetStmt-fresh : (start : ℕ) (comptime : Bool) → Fresh (parseLetStmt start comptime)
 unfolding parseLetStmt
-parseLetStmt-fresh start comptime = fresh (λ c. then-calm (eat-calm _) (λ _. then-alloc _ _ _ (omega arith) (λ u un uz. then-fresh expectIdent-fresh (λ a ad al ah. then-push u a (one uz) (omega arith) (λ v vn vz. then-calm (eat-calm _) (λ _. then-branch (then-then (then-fresh (parseExpr-fresh _) (λ t td tl th. then-push v t (later (omega arith)) (omega arith) (λ w wn wz. then-calm (calm-updateKind _ _ _ (omega arith)) (λ _. then-calm (expect-calm _) (λ _. then-fresh (parseExpr-fresh _) (λ e ed el eh. then-push w e (later (omega arith)) (omega arith) (λ y yn yz. then-calm (expect-calm _) (λ _. close-new y (omega arith) (omega arith)))))))))) (then-give (then-calm (calm-updateKind _ _ _ (omega arith)) (λ _. then-calm (expect-calm _) (λ _. then-fresh (parseExpr-fresh _) (λ e ed el eh. then-push v e (later (omega arith)) (omega arith) (λ y yn yz. then-calm (expect-calm _) (λ _. close-new y (omega arith) (omega arith))))))))))))))
+parseLetStmt-fresh start comptime =
+    fresh (λ c. then-calm (eat-calm _) (λ _.
+    then-alloc _ _ _ (omega arith) (λ u un uz.
+    then-fresh expectIdent-fresh (λ a ad al ah.
+    then-push u a (one uz) (omega arith) (λ v vn vz.
+    then-calm (eat-calm _) (λ _.
+    ok-then {R = Open (u .node)} (ok-branch (
+    then-fresh (parseExpr-fresh _) (λ t td tl th.
+    push-open v t (later (omega arith)) (omega arith) (omega arith) (omega arith)))
+    (give-open v (omega arith) (omega arith) (omega arith)))
+    (λ x xd xl xi.
+    then-calm (calm-updateKind _ _ _ (omega arith)) (λ _.
+    then-calm (expect-calm _) (λ _.
+    then-fresh (parseExpr-fresh _) (λ e ed el eh.
+    then-push x e (later (omega arith)) (omega arith) (λ y yn yz.
+    then-calm (expect-calm _) (λ _.
+    close-new y (omega arith) (omega arith)))))))))))))
 
 returnStmt-ok : {b c : ℕ} (start : ℕ) → b ≤ c → Ok c (Result b) (returnStmt start)
 unfolding returnStmt
-returnStmt-ok start l = then-alloc _ _ _ (omega arith) (λ u un uz. then-fresh (parseExpr-fresh _) (λ a ad al ah. then-push u a (one uz) (omega arith) (λ v vn vz. then-calm (expect-calm _) (λ _. then-close v (ok-give (is-statement (omega arith) (omega arith)))))))
+returnStmt-ok start l =
+    then-alloc _ _ _ (omega arith) (λ u un uz.
+    then-fresh (parseExpr-fresh _) (λ a ad al ah.
+    then-push u a (one uz) (omega arith) (λ v vn vz.
+    then-calm (expect-calm _) (λ _.
+    then-close v (
+    ok-give (is-statement (omega arith) (omega arith)))))))
 
 letStmt-ok : {b c : ℕ} (start : ℕ) (comptime : Bool) → b ≤ c → Ok c (Result b) (letStmt start comptime)
 unfolding letStmt
@@ -49,29 +85,103 @@ letStmt-ok start comptime l = then-fresh (parseLetStmt-fresh start comptime) (λ
 
 comptimeStmt-ok : {b c : ℕ} (start : ℕ) → b ≤ c → Ok c (Result b) (comptimeStmt start)
 unfolding comptimeStmt
-comptimeStmt-ok start l = then-calm (check-calm _) (λ _. ok-branch (then-fresh (fresh-block (omega arith)) (λ a ad al ah. then-calm (eat-calm _) (λ _. ok-branch (ok-give (is-statement (omega arith) (omega arith))) (ok-give (is-either (omega arith) (omega arith)))))) (then-calm (eat-calm _) (λ _. ok-branch (letStmt-ok start true l) (then-calm emitUnexpected-calm (λ _. then-calm (skipUntilRecoveryToken-calm _) (λ _. then-calm calm-peek (λ _. then-calm (calm-branch calm-pass calm-give) (λ _. then-alloc _ _ _ (omega arith) (λ u un uz. then-close u (ok-give (is-statement (omega arith) (omega arith))))))))))))
+comptimeStmt-ok start l =
+    then-calm (check-calm _) (λ _.
+    ok-branch (
+    then-fresh (fresh-block (omega arith)) (λ a ad al ah.
+    then-calm (eat-calm _) (λ _.
+    ok-branch (
+    ok-give (is-statement (omega arith) (omega arith)))
+    (ok-give (is-either (omega arith) (omega arith))))))
+    (then-calm (eat-calm _) (λ _.
+    ok-branch (
+    letStmt-ok start true l)
+    (then-calm emitUnexpected-calm (λ _.
+    then-calm (skipUntilRecoveryToken-calm _) (λ _.
+    then-calm calm-peek (λ _.
+    then-calm (calm-branch calm-pass calm-give) (λ _.
+    then-alloc _ _ _ (omega arith) (λ u un uz.
+    then-close u (
+    ok-give (is-statement (omega arith) (omega arith))))))))))))
 
 assignStmt-ok : {b c : ℕ} (start expr : ℕ) → expr < c → b ≤ c → Ok c (Result b) (assignStmt start expr)
 unfolding assignStmt
-assignStmt-ok start expr h l = then-alloc _ _ _ (omega arith) (λ u un uz. then-push u expr (one uz) (omega arith) (λ v vn vz. then-fresh (parseExpr-fresh _) (λ a ad al ah. then-push v a (later (omega arith)) (omega arith) (λ w wn wz. then-calm (expect-calm _) (λ _. then-close w (ok-give (is-statement (omega arith) (omega arith))))))))
+assignStmt-ok start expr h l =
+    then-alloc _ _ _ (omega arith) (λ u un uz.
+    then-push u expr (one uz) (omega arith) (λ v vn vz.
+    then-fresh (parseExpr-fresh _) (λ a ad al ah.
+    then-push v a (later (omega arith)) (omega arith) (λ w wn wz.
+    then-calm (expect-calm _) (λ _.
+    then-close w (
+    ok-give (is-statement (omega arith) (omega arith))))))))
 
 exprStmt-ok : {b c : ℕ} (start : ℕ) → b ≤ c → Ok c (Result b) (exprStmt start)
 unfolding exprStmt
-exprStmt-ok start l = then-maybe (tryParseExpr-maybe _) (λ a ad al ah. then-calm (eat-calm _) (λ _. ok-branch (assignStmt-ok start a ah (omega arith)) (then-calm (eat-calm _) (λ _. ok-branch (ok-give (is-statement (omega arith) (omega arith))) (then-calm calm-kindOf (λ _. ok-branch (ok-give (is-end (omega arith) (omega arith))) (ok-give (is-either (omega arith) (omega arith))))))))) (λ ae am. ok-give is-none)
+exprStmt-ok start l =
+    then-maybe (tryParseExpr-maybe _) (λ a ad al ah.
+    then-calm (eat-calm _) (λ _.
+    ok-branch (
+    assignStmt-ok start a ah (omega arith))
+    (then-calm (eat-calm _) (λ _.
+    ok-branch (
+    ok-give (is-statement (omega arith) (omega arith)))
+    (then-calm calm-kindOf (λ _.
+    ok-branch (
+    ok-give (is-end (omega arith) (omega arith)))
+    (ok-give (is-either (omega arith) (omega arith)))))))))
+    (λ ae am. ok-give is-none)
 
 tryParseStmt-ok : {b c : ℕ} → b ≤ c → Ok c (Result b) tryParseStmt
 unfolding tryParseStmt
-tryParseStmt-ok l = then-calm calm-position (λ _. then-maybe (tryParseWhile-maybe _) (λ a d g h. ok-give (is-statement (omega arith) h)) (λ d g. then-calm (eat-calm _) (λ _. ok-branch (returnStmt-ok _ (omega arith)) (then-calm (eat-calm _) (λ _. ok-branch (comptimeStmt-ok _ (omega arith)) (then-calm (eat-calm _) (λ _. ok-branch (letStmt-ok _ _ (omega arith)) (exprStmt-ok _ (omega arith)))))))))
+tryParseStmt-ok l =
+    then-calm calm-position (λ _.
+    then-maybe (tryParseWhile-maybe _) (λ a d g h. ok-give (is-statement (omega arith) h)) (λ d g. then-calm (eat-calm _) (λ _.
+    ok-branch (
+    returnStmt-ok _ (omega arith))
+    (then-calm (eat-calm _) (λ _.
+    ok-branch (
+    comptimeStmt-ok _ (omega arith))
+    (then-calm (eat-calm _) (λ _.
+    ok-branch (
+    letStmt-ok _ _ (omega arith))
+    (exprStmt-ok _ (omega arith)))))))))
 
 endExprTurn-ok : {n c : ℕ} (list : Unfinished) (expr : ℕ) → Open n list c → n < expr → list .last < expr → expr < c → Ok c (Goes (λ (b : Body) d. Both n (b .list) (b .closing) d)) (endExprTurn list expr)
 unfolding endExprTurn
-endExprTurn-ok list expr i l h g = then-calm (check-calm _) (λ _. then-calm eof-calm (λ _. ok-branch (ok-give (ends (both-waits i l h g))) (then-calm calm-before (λ _. then-calm calm-emit (λ _. then-push list expr (later (omega arith)) (omega arith) (λ v vn vz. ok-give (goes (both-idle (open′ (omega arith) (omega arith) (omega arith))))))))))
+endExprTurn-ok list expr i l h g =
+    then-calm (check-calm _) (λ _.
+    then-calm eof-calm (λ _.
+    ok-branch (
+    ok-give (ends (both-waits i l h g)))
+    (then-calm calm-before (λ _.
+    then-calm calm-emit (λ _.
+    then-push list expr (later (omega arith)) (omega arith) (λ v vn vz.
+    ok-give (goes (both-idle (open′ (omega arith) (omega arith) (omega arith))))))))))
 
 stmtTurn-ok : {n c : ℕ} (list : Unfinished) (o : Option ℕ) → Open n list c → Waits n list o c → Ok c (Goes (λ (b : Body) d. Both n (b .list) (b .closing) d)) (stmtTurn (body list o))
-unfolding stmtTurn pushOption
-stmtTurn-ok {c = c} list none i idle = then-calm (check-calm _) (λ _. ok-branch (ok-give (ends (both-idle i))) (then-result (tryParseStmt-ok {b = c} (omega arith)) (λ d l. then-calm emitUnexpected-calm (λ _. ok-give (ends (both-idle (open′ (omega arith) (omega arith) (omega arith)))))) (λ a d l h g. then-give (then-push list a (later (omega arith)) (omega arith) (λ v vn vz. ok-give (goes (both-idle (open′ (omega arith) (omega arith) (omega arith))))))) (λ a d l h g. then-give (ok-give (goes (both-waits (open′ (omega arith) (omega arith) (omega arith)) (omega arith) (omega arith) (omega arith))))) (λ a d l h g. then-give (endExprTurn-ok list a (open′ (omega arith) (omega arith) (omega arith)) (omega arith) (omega arith) (omega arith)))))
-stmtTurn-ok {c = c} list (some w) i (waits x y z) = then-calm (check-calm _) (λ _. ok-branch (ok-give (ends (both-waits i x y z))) (then-result (tryParseStmt-ok {b = c} (omega arith)) (λ d l. then-calm emitUnexpected-calm (λ _. ok-give (ends (both-waits (open′ (omega arith) (omega arith) (omega arith)) x y (omega arith))))) (λ a d l h g. then-push list w (later (omega arith)) (omega arith) (λ u un uz. then-push u a (later (omega arith)) (omega arith) (λ v vn vz. ok-give (goes (both-idle (open′ (omega arith) (omega arith) (omega arith))))))) (λ a d l h g. then-push list w (later (omega arith)) (omega arith) (λ u un uz. ok-give (goes (both-waits (open′ (omega arith) (omega arith) (omega arith)) (omega arith) (omega arith) (omega arith))))) (λ a d l h g. then-push list w (later (omega arith)) (omega arith) (λ u un uz. endExprTurn-ok u a (open′ (omega arith) (omega arith) (omega arith)) (omega arith) (omega arith) (omega arith)))))
+unfolding stmtTurn
+stmtTurn-ok {c =
+    c} list o i w = then-calm (check-calm _) (λ _.
+    ok-branch (ok-give (ends (record { list = i; rest = w })))
+    (then-result (tryParseStmt-ok {b = c} (omega arith))
+    (λ d l. then-calm emitUnexpected-calm (λ _. ok-give (ends (record { list = (open′ (omega arith) (omega arith) (omega arith)); rest = waits-on w l }))))
+    (λ a d l h g. then-option list o w (i .last) l (λ v vn vz.
+    then-push v a (later (omega arith)) (omega arith) (λ x xn xz.
+    ok-give (goes (both-idle (open′ (omega arith) (omega arith) (omega arith)))))))
+    (λ a d l h g. then-option list o w (i .last) l (λ v vn vz.
+    ok-give (goes (both-waits (open′ (omega arith) (omega arith) (omega arith)) (omega arith) (omega arith) (omega arith)))))
+    (λ a d l h g. then-option list o w (i .last) l (λ v vn vz.
+    endExprTurn-ok v a (open′ (omega arith) (omega arith) (omega arith)) (omega arith) (omega arith) (omega arith)))))
 
 pub parseBlock-fresh : (start kind : ℕ) → kind ≤ Node.Error → Fresh (parseBlock start kind)
 unfolding parseBlock
-parseBlock-fresh start kind k = fresh (λ c. then-alloc _ _ _ k (λ u un uz. then-calm (expect-calm _) (λ _. then-alloc-here _ _ (omega arith) (λ l ln lz. then-loop (λ (b : Body) d. Both (l .node) (b .list) (b .closing) d) (λ y d g i. stmtTurn-ok (y .list) (y .closing) (i .list) (i .rest)) (both-idle (open′ refl (omega arith) (omega arith))) (λ e ed el ei. then-close (e .list) (then-push u (e .list .node) (one uz) (omega arith) (λ u1 u1n u1z. then-closing u1 _ (e .closing) (ei .rest) (omega arith) (λ v vn. then-calm (expect-calm _) (λ _. close-new v (omega arith) (omega arith))))))))))
+parseBlock-fresh start kind k =
+    fresh (λ c. then-alloc _ _ _ k (λ u un uz.
+    then-calm (expect-calm _) (λ _.
+    then-alloc-here _ _ (omega arith) (λ l ln lz.
+    then-loop (λ (b : Body) d. Both (l .node) (b .list) (b .closing) d) (λ y d g i. stmtTurn-ok (y .list) (y .closing) (i .list) (i .rest)) (both-idle (open′ refl (omega arith) (omega arith))) (λ e ed el ei.
+    then-close (e .list) (
+    then-push u (e .list .node) (one uz) (omega arith) (λ u1 u1n u1z.
+    then-closing u1 _ (e .closing) (ei .rest) (omega arith) (λ v vn.
+    then-calm (expect-calm _) (λ _.
+    close-new v (omega arith) (omega arith))))))))))

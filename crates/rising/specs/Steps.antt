@@ -1,16 +1,16 @@
 -- The rules by which a reader's program is gone through, command by command.
-use mathlib.Core.Path.{_≡_, refl, sym, _∙_, ap}
-use mathlib.Core.Bool.{Bool, true, false}
+use mathlib.Core.Path.{_≡_, refl, _∙_}
+use mathlib.Core.Bool.{Bool}
 use mathlib.Core.Option.{Option, none, some}
-use mathlib.Core.List.{List}
-use Prim.Native.Nat.{ℕ, suc, _+_, _≤_, _<_}
+use Prim.Native.Nat.{ℕ, _+_, _≤_, _<_}
 use native.Mathlib.Omega.{arith}
 use Rattle.words.specs.Node
 use Rattle.definition.specs.declared.Mode.{Mode}
 use Rattle.definition.specs.declared.Unfinished.{Unfinished}
 use Rattle.definition.specs.Prog.{Turn, again, stop, Prog, Give, Then, Branch, Loop, enterExpr, enterBlock, eval}
 use Rattle.definition.specs.Nodes.{allocNodeFrom, allocNode, closeNodeAt, closeNode, updateKind, pushChild}
-use Rattle.rising.specs.Rules.{New, Newer, nothing, newer, Ok, Calm, Fresh, Maybe, Goes, goes, ends, ok-then, then-give, then-branch, then-calm, ok-give, ok-branch, ok-weaken, then-then, ok-loop, calm-position, calm-closeAt, calm-setKind, Order, ok-link, ok-alloc}
+use Rattle.definition.specs.Expressions.{pushOption, pushClosing}
+use Rattle.rising.specs.Rules.{calm-closeAtStart, later, New, Newer, nothing, newer, Ok, Calm, Fresh, Maybe, Goes, goes, ends, ok-then, then-give, then-calm, ok-give, ok-branch, ok-weaken, then-then, ok-loop, calm-position, calm-closeAt, calm-setKind, Order, ok-link, ok-alloc}
 
 pub new : {c a d : ℕ} → c ≤ a → a < d → New c a d
 new l h = record { low = l; high = h }
@@ -133,6 +133,18 @@ give-nothing = ok-give nothing
 pub push-open : {n c : ℕ} (u : Unfinished) (a : ℕ) → Order (u .last) a → a < c → u .node ≡ n → n < c → Ok c (Open n) (pushChild u a)
 push-open u a o l e h = ok-push u a o l (λ v p q. record { same = p ∙ e; made = h; last = omega arith })
 
+-- A node that was opened since.
+pub record Begun (b : ℕ) (u : Unfinished) (d : ℕ) : Type 0 where
+  pub low : b ≤ u .node
+  pub made : u .node < d
+  pub last : u .last < d
+
+pub push-begun : {b c : ℕ} (u : Unfinished) (a : ℕ) → Order (u .last) a → a < c → b ≤ u .node → u .node < c → Ok c (Begun b) (pushChild u a)
+push-begun u a o l g h = ok-push u a o l (λ v p q. record { low = omega arith; made = omega arith; last = omega arith })
+
+pub give-begun : {b c : ℕ} (u : Unfinished) → b ≤ u .node → u .node < c → u .last < c → Ok c (Begun b) (Give u)
+give-begun u l g h = ok-give (record { low = l; made = g; last = h })
+
 pub give-open : {n c : ℕ} (u : Unfinished) → u .node ≡ n → n < c → u .last < c → Ok c (Open n) (Give u)
 give-open u e h l = ok-give (open′ e h l)
 
@@ -201,3 +213,23 @@ both-idle o = record { list = o; rest = idle }
 
 pub both-waits : {n a d : ℕ} {u : Unfinished} → Open n u d → n < a → u .last < a → a < d → Both n u (some a) d
 both-waits o l h g = record { list = o; rest = waits l h g }
+
+pub waits-on : {n c d : ℕ} {u : Unfinished} {o : Option ℕ} → Waits n u o c → c ≤ d → Waits n u o d
+waits-on idle l = idle
+waits-on {d = d} (waits {a = a} x y z) l = waits {a = a} {d = d} x y (omega arith)
+
+-- What was just read may wait.
+pub waiting : {n b d : ℕ} {u : Unfinished} {o : Option ℕ} → Newer b o d → n < b → u .last < b → Waits n u o d
+waiting nothing l h = idle
+waiting {d = d} (newer {a = a} x y) l h = waits {a = a} {d = d} (omega arith) (omega arith) y
+
+-- It is linked, if there is one: the last child is older than what was read since.
+pub then-option : {A : Type 0} {n c d : ℕ} {Q : A → ℕ → Type 0} (u : Unfinished) (o : Option ℕ) {f : Unfinished → Prog A} → Waits n u o c → u .last < c → c ≤ d → ((v : Unfinished) → v .node ≡ u .node → v .last < c → Ok d Q (f v)) → Ok d Q (Then (pushOption u o) f)
+unfolding pushOption
+then-option u none idle l g h = then-give (h u refl l)
+then-option u (some a) (waits x y z) l g h = then-push u a (later y) (omega arith) (λ v e i. h v e (omega arith))
+
+pub then-closing : {A : Type 0} {n c : ℕ} {Q : A → ℕ → Type 0} {w : Unfinished} (u : Unfinished) (list : ℕ) (o : Option ℕ) {f : Unfinished → Prog A} → Waits n w o c → u .last ≡ n → ((v : Unfinished) → v .node ≡ u .node → Ok c Q (f v)) → Ok c Q (Then (pushClosing u list o) f)
+unfolding pushClosing
+then-closing u list none idle e h = then-give (h u refl)
+then-closing u list (some a) (waits x y z) e h = then-then (then-calm calm-closeAtStart (λ _. then-push u a (later (omega arith)) z (λ v p q. h v p)))

@@ -1,18 +1,17 @@
--- The words of a file that was built from nothing: every node but File is linked exactly once; all are reached, and next siblings rise.
+-- The words of a file that was built from nothing: every node but File is linked exactly once, and all are reached.
 use mathlib.Core.Path.{_≡_, refl, sym, _∙_, ap}
-use mathlib.Core.Logic.{_≢_, _⊎_, inl, inr}
+use mathlib.Core.Logic.{_≢_}
 use mathlib.Core.Bool.{Bool, true, false, cond}
 use mathlib.Core.List.{List, [], _∷_}
-use Prim.Native.Nat.{ℕ, zero, suc, _+_, _*_, _≤_, _<_}
+use Prim.Native.Nat.{ℕ, zero, suc, _+_, _≤_, _<_}
 use native.Mathlib.Omega.{arith}
 use native.Mathlib.Decide.{ℕ-discrete}
 use borrow.Author.Tests.{eq-eqb, ne-eqb}
 use lib.Dec.{eqb}
 use lib.ListN.{length, getD}
-use Rattle.words.specs.Words.{nodeWidth}
 use Rattle.definition.specs.Prog.{nextWord, childWord}
 use Rattle.definition.specs.Abstract.{Node, nodeAt}
-use Rattle.definition.specs.Encodes.{place, next, firstKid, Kids, kid, Plain, Encodes}
+use Rattle.definition.specs.Encodes.{place, next, firstKid, Kids, kid, Encodes}
 use Rattle.chart.specs.Tree.{Tree, Trees, none, _▸_}
 use Rattle.tree.specs.Grown.{size, sizes, sizes-⊕, Is, Are, is, no-one, and, Built}
 
@@ -33,12 +32,6 @@ pub data Reached (w : List ℕ) : ℕ → Type 0 where
   root : {i : ℕ} → i ≡ 0 → Reached w i
   below : {p i : ℕ} → Reached w p → getD w (place p childWord) 0 ≡ i → Reached w i
   beside : {p i : ℕ} → Reached w p → next w p ≡ i → Reached w i
-
--- The nodes fit into the words, each is reached, and a next sibling other than 0 is above its own node.
-pub record Ordered (w : List ℕ) (count : ℕ) : Type 0 where
-  pub room : nodeWidth * count ≤ length w
-  pub reached : (i : ℕ) → i < count → Reached w i
-  pub rises : (i : ℕ) → i < count → (next w i ≡ 0) ⊎ (i < next w i)
 
 -- ---- sums
 
@@ -322,18 +315,6 @@ module _ (w : List ℕ) (st : List Node) where
               found (last f) = absurd (omega arith)
               found (another f y) = let same : p ≡ q = one-parent l h c (rw e at y) in (rw same x, omega arith)
 
-      -- A node's next one, if it has one, is above it.
-      next-above : (i : ℕ) → i < length st → (next w i ≡ 0) ⊎ (i < next w i)
-      next-above i l = go (ℕ-discrete i 0)
-        where
-          found : {xs : List ℕ} → Behind 0 i xs → (next w i ≡ 0) ⊎ (i < next w i)
-          found (last e) = inl e
-          found (another g c) = inr g
-
-          go : Dec (i ≡ 0) → (next w i ≡ 0) ⊎ (i < next w i)
-          go (yes q) = inl (enc .free i l (rw q root))
-          go (no q) = let (p, g, c) = parents i (omega arith) l in found (behind (enc .chains p g) c)
-
       -- What a node links to as its first child is its child.
       first-of : {i q : ℕ} → 0 < i → q < length st → getD w (place q childWord) 0 ≡ i → (firstKid (nodeAt st q .kids) ≡ i) × In i (nodeAt st q .kids)
       first-of {i} {q} z l e = let f : firstKid (nodeAt st q .kids) ≡ i = sym (enc .firsts q l) ∙ e in (f, go (nodeAt st q .kids) f)
@@ -368,15 +349,10 @@ module _ (w : List ℕ) (st : List Node) where
                       absurd (omega (arith, low, f .0))
                   only q j (by-next h e) = let k : _ = next-in z g c h e in (next-same (enc .chains p g) (k .0) x (k .1) low e n, refl)
 
--- Where a file was built from nothing, its nodes are all reached, and next siblings rise.
-pub ordered : {text tokens w values : List ℕ} {st : List Node} {t : Tree} → Plain w st → Encodes w st → Built text tokens [] [] st values 0 t → Ordered w (length st)
-ordered {text} {tokens} {w} {values} {st} {t} plain enc b =
-    let whole : size t ≡ length st = omega (arith, b .size-is) in
-    record {
-      room = plain .room;
-      reached = λ i l. via-reached w st enc (under w st enc text tokens values _ (λ j x. x .1) (b .tree) whole i l .1);
-      rises = next-above w st enc (b .root) (λ i z l. parent w st enc text tokens values _ (λ j x. x .1) (b .tree) whole i z l);
-    }
+-- Where a file was built from nothing, its nodes are all reached.
+pub all-reached : {text tokens w values : List ℕ} {st : List Node} {t : Tree} → Encodes w st → Built text tokens [] [] st values 0 t → (i : ℕ) → i < length st → Reached w i
+all-reached {text} {tokens} {w} {values} {st} enc b i l =
+    via-reached w st enc (under w st enc text tokens values _ (λ j x. x .1) (b .tree) (omega (arith, b .size-is)) i l .1)
 
 -- And every node but File, node 0, is linked exactly once.
 pub linked-once : {text tokens w values : List ℕ} {st : List Node} {t : Tree} → Encodes w st → Built text tokens [] [] st values 0 t → (i : ℕ) → 0 < i → i < length st → LinkedOnce w (length st) i

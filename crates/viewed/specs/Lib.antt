@@ -4,6 +4,8 @@ pub mod Viewed
 pub mod Questions
 pub mod Table
 pub mod Example
+pub mod Looks
 pub mod Stands
 pub mod Answers
 pub mod Proved
+pub mod Unrefused

@@ -2,7 +2,7 @@
 use mathlib.Core.Path.{_≡_, refl, sym, _∙_}
 use mathlib.Core.Option as Option
 use mathlib.Core.List.{List}
-use Prim.Native.Nat.{ℕ, suc, _*_, _≤_}
+use Prim.Native.Nat.{ℕ, suc, _*_, _≤_, _<_}
 use native.Mathlib.Omega.{arith}
 use lib.ListN.{getD, take}
 use lib.Seq.{getD-drop}
@@ -10,15 +10,15 @@ use Rattle.words.specs.Words.{nodeWidth}
 use Rattle.definition.specs.Prog.{nextWord, childWord}
 use Rattle.definition.specs.Encodes as Encodes
 use Rattle.chart.specs.Tree.{Trees}
-use Rattle.chart.specs.Kinds.{derived-known}
 use Rattle.tree.specs.Stored.{stored}
-use Rattle.tree.specs.Linked.{Reached, Ordered}
+use Rattle.tree.specs.Linked.{Reached}
 use Rattle.tree.specs.Linked as Linked
 use Rattle.reader.specs.Read.{Lent, reads}
-use Rattle.reader.specs.Demand.{Derived}
 use Rattle.reader.specs.Joined.{agreed}
+use Rattle.rising.specs.Sound.{Sound}
 use Rattle.looking.specs.View.{turns}
 use Rattle.viewed.specs.Numbered.{Place, Row, place, from, Within, itself, below, beside, label}
+use Rattle.viewed.specs.Looks.{looked, reads-sound}
 use Rattle.viewed.specs.Stands.{Heads, nobody, somebody, one-place, file-held}
 use Rattle.viewed.specs.Answers.{Held, held, is-answer, answers}
 use Rattle.viewed.specs.Viewed.{Viewed, Views}
@@ -55,15 +55,15 @@ module _ (text tokens values ns : List ℕ) where
     placed (Linked.below r e) = let (q, w, f) = placed r in child-of q w (rw f e)
     placed (Linked.beside r e) = let (q, w, f) = placed r in next-of q w (rw f e)
 
-  viewed : (count : ℕ) (t : Trees) → Derived text t → stored text tokens ns values count ≡ Option.some t → Ordered ns count → Viewed text tokens ns values count t
-  viewed count t d e o =
-      let (root, tree, file, s) = file-held text tokens values ns count (omega (arith, o .room)) (o .rises) t (derived-known d) e in
-      let whole : Held text tokens values ns root = held text tokens values ns (omega (arith, o .room)) s in
+  viewed : (count : ℕ) (t : Trees) → stored text tokens ns values count ≡ Option.some t → ((i : ℕ) → i < count → Reached ns i) → Sound ns count → Viewed text tokens ns values count t
+  viewed count t e o sound =
+      let (root, tree, file, s) = file-held text tokens values ns count (looked ns count sound) t e in
+      let whole : Held text tokens values ns root = held text tokens values ns (omega (arith, sound .room)) s in
       record {
         root = root;
         tree = tree;
         file = file;
-        all = λ n l. placed root file whole (o .reached n l);
+        all = λ n l. placed root file whole (o n l);
         one = λ p q w x. one-place text tokens values ns (within-held whole w .stood) (within-held whole x .stood);
         says = λ p w. within-held whole w .says;
         views = λ p w q. is-answer text tokens values ns (answers text tokens values ns q (within-held whole w) (within-held whole w));
@@ -74,4 +74,4 @@ pub reads-viewed : (text : List ℕ) (lent : Lent) → Views text (reads text le
 reads-viewed text lent tokens nodes values e =
     let a = agreed text lent e in
     let (t, d) = a .exactly .0 refl in
-    (t, d, viewed text (take tokens (reads text lent .tokens)) (take values (reads text lent .values)) (reads text lent .nodes) nodes t d (a .tree t d) (a .ordered t d))
+    (t, d, viewed text (take tokens (reads text lent .tokens)) (take values (reads text lent .values)) (reads text lent .nodes) nodes t (a .tree t d) (a .reached t d) (reads-sound text lent e))

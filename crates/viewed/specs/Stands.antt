@@ -1,27 +1,20 @@
 -- The words of a tree hold its places: each node can be looked at, and its links lead to its children and to its neighbours.
 use mathlib.Core.Path.{_≡_, refl, sym, _∙_, ap}
-use mathlib.Core.Logic.{_≢_, _⊎_, inl, inr}
+use mathlib.Core.Logic.{_≢_}
 use mathlib.Core.Bool.{Bool, true, false, cond}
 use mathlib.Core.Option.{Option}
 use mathlib.Core.Option as Option
 use mathlib.Core.List.{List}
-use Prim.Native.Nat.{ℕ, zero, suc, _*_, _≤_, _<_}
+use Prim.Native.Nat.{ℕ, zero, suc, _<_}
 use native.Mathlib.Omega.{arith}
-use borrow.Author.Tests.{eqb-true, eqb-false, ltb-true, leb-true}
-use lib.Dec.{eqb, ltb, leb}
-use lib.Seq.{getD-drop}
+use borrow.Author.Tests.{eqb-true, eqb-false, ltb-true}
+use lib.Dec.{eqb, ltb}
 use Rattle.words.specs.Node
-use Rattle.words.specs.Words.{nodeWidth}
 use Rattle.words.specs.declared.node.Node.{Node as Fields}
-use Rattle.definition.specs.Prog.{nextWord}
-use Rattle.definition.specs.Encodes.{next}
 use Rattle.chart.specs.Tree.{Value, flags, name, number, bytes, Trees, node, _▸_}
 use Rattle.chart.specs.Tree as Tree
-use Rattle.chart.specs.Kinds.{Known, known}
 use Rattle.tree.specs.Stored.{where-so, isName, valueAt, said, joined, treesFrom, stored}
 use Rattle.looking.specs.View.{is, look, nodeAt}
-use Rattle.looking.specs.View as View
-use Rattle.looking.specs.Laws.{looked, last, next-rises}
 use Rattle.viewed.specs.Numbered.{Label, Place, Row, place, empty, from, bare, bareFrom, label, saying}
 
 abbrev labelled : ℕ → Fields → Label
@@ -100,51 +93,36 @@ module _ (text tokens values ns : List ℕ) where
 
   -- Where there are trees to be had, a link leads to their places.
   abbrev Leads : ℕ → ℕ → Option Trees → Type 0
-  Leads b n o = (ts : Trees) → Known ts → o ≡ Option.some ts → (r : Row) × (bare r ≡ ts) × Heads b n r
+  Leads b n o = (ts : Trees) → o ≡ Option.some ts → (r : Row) × (bare r ≡ ts) × Heads b n r
 
   -- They are a node's, with its number.
   abbrev PlaceOf : ℕ → ℕ → Trees → Type 0
   PlaceOf b n ts = (p : Place) × (bare (from p) ≡ ts) × (label p .number ≡ n) × Stands b p
 
-  parts : {k : ℕ} {v : Value} {ts us : Trees} → Known (node k v ts ▸ us) → (leb k Node.Error ≡ true) × Known ts × Known us
-  parts (known e a b) = (e, a, b)
-
-  module _ (count : ℕ) (fits : count ≤ View.count ns) (rises : (i : ℕ) → i < count → (next ns i ≡ 0) ⊎ (i < next ns i)) where
-    -- A node of a kind that there is can be looked at.
-    looks : (n : ℕ) → n < count → nodeAt ns n .kind ≤ Node.Error → look ns n ≡ is (nodeAt ns n)
-    looks n l k = go (rises n l)
-      where
-        same : nodeAt ns n .next ≡ next ns n
-        same = getD-drop (nodeWidth * n) ns nextWord 0
-
-        go : (next ns n ≡ 0) ⊎ (n < next ns n) → look ns n ≡ is (nodeAt ns n)
-        go (inl z) = sym (looked ns n (omega arith) (nodeAt ns n) refl _ (last n (nodeAt ns n) k (same ∙ z)))
-        go (inr h) = sym (looked ns n (omega arith) (nodeAt ns n) refl _ (next-rises n (nodeAt ns n) k (omega (arith, same)) (omega (arith, same))))
-
+  module _ (count : ℕ) (looks : (n : ℕ) → n < count → look ns n ≡ is (nodeAt ns n)) where
     -- What is joined is a place.
-    joins : {b n : ℕ} (x : Option Value) (y z : Option Trees) {t : Trees} → n < count → Known t → says n ≡ x → Leads b (nodeAt ns n .child) y → Leads b (nodeAt ns n .next) z → joined (nodeAt ns n .kind) x y z ≡ Option.some t → PlaceOf (suc b) n t
+    joins : {b n : ℕ} (x : Option Value) (y z : Option Trees) {t : Trees} → n < count → says n ≡ x → Leads b (nodeAt ns n .child) y → Leads b (nodeAt ns n .next) z → joined (nodeAt ns n .kind) x y z ≡ Option.some t → PlaceOf (suc b) n t
     unfolding joined bare bareFrom
-    joins {n = n} (Option.some v) (Option.some cs) (Option.some us) {t} l ks s down along e =
+    joins {n = n} (Option.some v) (Option.some cs) (Option.some us) {t} l s down along e =
         let same : t ≡ node (nodeAt ns n .kind) v cs ▸ us = cc in
-        let (k, a, b) = parts (rw same at ks) in
-        let (r, f, h) = down cs a refl in
-        let (u, g, i) = along us b refl in
-        (place (labelled n (nodeAt ns n)) (nodeAt ns n .kind) v r u, rw (f, g, same), refl, stands (looks n l (leb-true _ _ k)) refl refl s h i)
-    joins (Option.some v) (Option.some cs) Option.none l ks s down along e = absurd (let z : _≡_ {A = ℕ} 0 1 = cc in omega arith)
-    joins (Option.some v) Option.none z l ks s down along e = absurd (let z : _≡_ {A = ℕ} 0 1 = cc in omega arith)
-    joins Option.none y z l ks s down along e = absurd (let z : _≡_ {A = ℕ} 0 1 = cc in omega arith)
+        let (r, f, h) = down cs refl in
+        let (u, g, i) = along us refl in
+        (place (labelled n (nodeAt ns n)) (nodeAt ns n .kind) v r u, rw (f, g, same), refl, stands (looks n l) refl refl s h i)
+    joins (Option.some v) (Option.some cs) Option.none l s down along e = absurd (let z : _≡_ {A = ℕ} 0 1 = cc in omega arith)
+    joins (Option.some v) Option.none z l s down along e = absurd (let z : _≡_ {A = ℕ} 0 1 = cc in omega arith)
+    joins Option.none y z l s down along e = absurd (let z : _≡_ {A = ℕ} 0 1 = cc in omega arith)
 
     abbrev reached : ℕ → ℕ → Option Trees
     reached b n = treesFrom text tokens ns values count b n
 
     row-held : (b n : ℕ) → Leads b n (reached b n)
     unfolding treesFrom where-so bare
-    row-held zero n ts ks e = go (eqb n 0) refl e
+    row-held zero n ts e = go (eqb n 0) refl e
       where
         go : (t : Bool) → eqb n 0 ≡ t → where-so t Tree.none ≡ Option.some ts → (r : Row) × (bare r ≡ ts) × Heads zero n r
         go true z e = (empty, (cc), nobody (eqb-true n 0 z))
         go false z e = absurd (let z : _≡_ {A = ℕ} 0 1 = cc in omega arith)
-    row-held (suc b) n ts ks e = go (eqb n 0) (ltb n count) refl refl (row-held b (nodeAt ns n .child)) (row-held b (nodeAt ns n .next)) e
+    row-held (suc b) n ts e = go (eqb n 0) (ltb n count) refl refl (row-held b (nodeAt ns n .child)) (row-held b (nodeAt ns n .next)) e
       where
         go : (t u : Bool) → eqb n 0 ≡ t → ltb n count ≡ u
             → Leads b (nodeAt ns n .child) (reached b (nodeAt ns n .child)) → Leads b (nodeAt ns n .next) (reached b (nodeAt ns n .next))
@@ -153,16 +131,16 @@ module _ (text tokens values ns : List ℕ) where
         go true u z l down along e = (empty, (cc), nobody (eqb-true n 0 z))
         go false false z l down along e = absurd (let z : _≡_ {A = ℕ} 0 1 = cc in omega arith)
         go false true z l down along e =
-            let (p, f, g, s) = joins _ _ _ (ltb-true n count l) ks refl down along e in
+            let (p, f, g, s) = joins _ _ _ (ltb-true n count l) refl down along e in
             (from p, f, somebody (eqb-false n 0 z) (sym g) s)
 
     none-after : {b n : ℕ} → n ≡ 0 → Leads b n (Option.some Tree.none)
     unfolding bare
-    none-after z ts ks e = (empty, (cc), nobody z)
+    none-after z ts e = (empty, (cc), nobody z)
 
-    pub file-held : (t : Trees) → Known t → stored text tokens ns values count ≡ Option.some t → PlaceOf (suc count) 0 t
+    pub file-held : (t : Trees) → stored text tokens ns values count ≡ Option.some t → PlaceOf (suc count) 0 t
     unfolding stored
-    file-held t ks e = go count refl e
+    file-held t e = go count refl e
       where
         go : (c : ℕ) → c ≡ count → stored text tokens ns values c ≡ Option.some t → PlaceOf (suc count) 0 t
         go zero q e = absurd (let z : _≡_ {A = ℕ} 0 1 = cc in omega arith)
@@ -171,5 +149,5 @@ module _ (text tokens values ns : List ℕ) where
             next-zero : (u : Bool) → eqb (nodeAt ns 0 .next) 0 ≡ u
                 → cond u (joined (nodeAt ns 0 .kind) (says 0) (treesFrom text tokens ns values (suc c) (suc c) (nodeAt ns 0 .child)) (Option.some Tree.none)) Option.none ≡ Option.some t
                 → PlaceOf (suc count) 0 t
-            next-zero true z e = joins {b = count} {n = 0} _ _ _ (omega arith) ks refl (row-held count (nodeAt ns 0 .child)) (none-after (eqb-true _ 0 z)) (rw q at e)
+            next-zero true z e = joins {b = count} {n = 0} _ _ _ (omega arith) refl (row-held count (nodeAt ns 0 .child)) (none-after (eqb-true _ 0 z)) (rw q at e)
             next-zero false z e = absurd (let z : _≡_ {A = ℕ} 0 1 = cc in omega arith)

@@ -1,5 +1,5 @@
 -- Each accessor is a question: beside it, the one that it asks. So what `Viewed` says of questions it says of every accessor.
-use mathlib.Core.Path.{_≡_, refl, sym, _∙_, ap}
+use mathlib.Core.Path.{_≡_, refl, sym, _∙_, ap, subst}
 use mathlib.Core.List.{List, [], _∷_}
 use Prim.Native.Nat.{ℕ, _+_, _-_}
 use lib.Dec.{eqb}
@@ -17,7 +17,7 @@ use Rattle.views.specs.Imports
 use Rattle.views.specs.Statements
 use Rattle.viewed.specs.Numbered.{Place, Within, label}
 use Rattle.viewed.specs.Query.{Sort, Query, outer, nothing, give, new, kind, payload, span, nthAfter, countAfter, byKind, then, with, else, choose, joined, OnWords, seen, onWords, onTree, answer}
-use Rattle.viewed.specs.Viewed.{Viewed}
+use Rattle.viewed.specs.Viewed.{Viewed, Unrefused}
 use Rattle.viewed.specs.Questions.{nthOf, countOf, childOf, flagOf, ident, nameOf, innerOf, innerCount, newChild, spanChild, payloadChild, structBody, expr, exprOf, typeOf, valueOf, memberExpr, structChild, structChildCount, bound, letStmt, whileStmt, statementOf, importPath, importGlob, segment, segmentCount, firstSpan, endSpan, pathSpan, groupSegment, groupSegmentCount, groupFirstSpan, groupEndSpan}
 
 -- A question, and a function of words and of a node's number that gives the answers to it.
@@ -30,6 +30,13 @@ Tells (entry {s} q view e) ns p = view ns (label p .number) ≡ answer s (onTree
 
 pub tells : {text tokens nodes values : List ℕ} {count : ℕ} {t : Trees} (v : Viewed text tokens nodes values count t) (e : Entry) (p : Place) → Within (v .root) p → Tells e nodes p
 tells {nodes = nodes} v (entry q view e) p w = ap (λ (f : List ℕ → ℕ → Seen _). f nodes (label p .number)) (sym e) ∙ v .views p w q
+
+-- It refuses nothing.
+abbrev pub Unfailing : Entry → List ℕ → ℕ → ℕ → Type 0
+Unfailing (entry {s} q view e) ns count n = Unrefused count s (view ns n)
+
+pub unfailing : (ns : List ℕ) (count n : ℕ) → ((s : Sort) (q : Query s) → Unrefused count s (onWords ns q n)) → (e : Entry) → Unfailing e ns count n
+unfailing ns count n h (entry {s} q view e) = subst (λ (f : List ℕ → ℕ → Seen (OnWords s)). Unrefused count s (f ns n)) e (h s q)
 
 -- The views by kind, from which accessors are made (`View`, `Expr`): the kinds `first` to `last` and `low` to `high`.
 pub forms : (first last low high k i : ℕ) → List Entry

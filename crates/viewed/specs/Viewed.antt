@@ -10,7 +10,9 @@ use Rattle.tree.specs.Stored.{said}
 use Rattle.reader.specs.Read.{Read}
 use Rattle.reader.specs.Demand.{Derived}
 use Rattle.viewed.specs.Numbered.{Place, from, bare, Within, label, kind, value, payload}
-use Rattle.viewed.specs.Query.{Sort, Query, onWords, onTree, answer}
+use Rattle.looking.specs.View.{Seen, is, none}
+use Rattle.viewed.specs.Query.{Sort, node, number, Query, OnWords, onWords, onTree, answer}
+use Rattle.viewed.specs.Query as Query
 
 -- The counted nodes of the words are those of a tree, each a place in it, and no view refuses: every question gives of a node what the tree says
 -- of its place.
@@ -31,3 +33,18 @@ abbrev pub Views : List ℕ → Read → Type 0
 Views text r =
     (tokens nodes values : ℕ) → r .answer ≡ done (tokens ∷ nodes ∷ values ∷ 0 ∷ [])
     → (t : Trees) × Derived text t × Viewed text (take tokens (r .tokens)) (r .nodes) (take values (r .values)) nodes t
+
+-- Of any text, with reports or without: an answer that is no refusal. Where it is a node, it is one of those counted.
+abbrev pub Counted : ℕ → (s : Sort) → OnWords s → Type 0
+Counted count node n = n < count
+Counted count number a = Unit {0}
+Counted count Query.tokens a = Unit {0}
+
+pub data Unrefused (count : ℕ) (s : Sort) (x : Seen (OnWords s)) : Type 0 where
+  gives : (a : OnWords s) → Counted count s a → x ≡ is a → Unrefused count s x
+  finds-none : x ≡ none → Unrefused count s x
+
+abbrev pub NeverRefused : Read → Type 0
+NeverRefused r =
+    (tokens nodes values reports : ℕ) → r .answer ≡ done (tokens ∷ nodes ∷ values ∷ reports ∷ [])
+    → (n : ℕ) → n < nodes → (s : Sort) (q : Query s) → Unrefused nodes s (onWords (r .nodes) q n)
