@@ -46,15 +46,21 @@ fn print_subject(text: &[u8], r: Report) {
     }
 }
 
-fn print_report(name: &[u8], text: &[u8], r: Report) {
+// `file:line:column: `
+fn print_head(name: &[u8], text: &[u8], offset: usize) {
     print::bytes(name);
     print::bytes(b":");
-    print_position(text, r.start as usize);
+    print_position(text, offset);
     print::bytes(b": ");
+}
+
+fn print_report(name: &[u8], text: &[u8], r: Report) {
+    let start = r.start as usize;
+    print_head(name, text, start);
     print_subject(text, r);
     print::sentence(messages::sentence_of(r.kind, r.detail));
     print::bytes(b"\n");
-    show::place(text, r.start as usize, r.end as usize);
+    show::place(text, start, r.end as usize);
 }
 
 // So many reports, in the order in which they were made.

@@ -153,16 +153,22 @@ fn print_if(is_cut: bool, sign: &[u8]) {
     }
 }
 
+// The shown part of a line, from `start` to `end`, with what shows that it is cut.
+fn print_part(text: &[u8], is_begun: bool, start: usize, end: usize, is_cut: bool) {
+    print_if(is_begun, b"...");
+    echo(text, start, end);
+    print_if(is_cut, b"...");
+    print::bytes(b"\n");
+}
+
 // The line of a place, or as much as is shown of it, with carets under the place.
 pub(crate) fn place(text: &[u8], place: usize, place_end: usize) {
     let line = position::source_line(text, place);
     let start = part_start(text, line.start, place);
     let end = part_end(text, start, line.end);
-    print_if(line.start < start, b"...");
-    echo(text, start, end);
-    print_if(end < line.end, b"...");
-    print::bytes(b"\n");
-    print_if(line.start < start, b"   ");
+    let is_begun = line.start < start;
+    print_part(text, is_begun, start, end, end < line.end);
+    print_if(is_begun, b"   ");
     carets(text, start, end, place, place_end);
     print::bytes(b"\n");
 }

@@ -3,7 +3,6 @@ use mathlib.Core.Path.{_≡_, refl}
 use mathlib.Core.Bool.{Bool, true, false, cond}
 use mathlib.Core.List.{List, [], _∷_, reverse, reverse-append}
 use Prim.Native.Nat.{ℕ, suc, _+_, _-_, _≤_, _<_, min}
-use native.Mathlib.Nat.{sub-zero}
 use native.Mathlib.Numerals.{add-one}
 use native.Mathlib.Omega.{arith}
 use borrow.Author.Tests.{leb-true, leb-false, ne-eqb}
@@ -126,22 +125,15 @@ unfolding lineStart lineEnd
 line-holds text at h = omega (arith, before-length text at h, until-most (drop at text), length-drop at text)
 
 -- One byte is passed, and with it a newline, if it is one.
-module _ (text : List ℕ) (at n : ℕ) (h : at < length text) where
-  behind-next : 0 < n → behind (drop at text) n ≡ 1 + behind (drop (at + 1) text) (n - cond (isNewline (getD text at 0)) 1 0)
-  unfolding behind
-  behind-next p = rw (drop-cons text at 0 h, add-one, ne-eqb n 0 (λ e. omega arith))
-
-  pub behind-newline : 0 < n → isNewline (getD text at 0) ≡ true → behind (drop at text) n ≡ 1 + behind (drop (at + 1) text) (n - 1)
-  behind-newline p t = rw t at (behind-next p)
-
-  pub behind-other : 0 < n → isNewline (getD text at 0) ≡ false → behind (drop at text) n ≡ 1 + behind (drop (at + 1) text) n
-  behind-other p t = rw (t, sub-zero) at (behind-next p)
-
-pub behind-none : (s : List ℕ) → behind s 0 ≡ 0
+pub behind-next : (text : List ℕ) (at n : ℕ) → at < length text → 0 < n → behind (drop at text) n ≡ 1 + behind (drop (at + 1) text) (n - cond (isNewline (getD text at 0)) 1 0)
 unfolding behind
-behind-none [] = refl
-behind-none (b ∷ s) = refl
+behind-next text at n h p = rw (drop-cons text at 0 h, add-one, ne-eqb n 0 (λ e. omega arith))
 
-pub behind-past : (text : List ℕ) (n : ℕ) → behind (drop (length text) text) n ≡ 0
+pub behind-none : (s : List ℕ) (n : ℕ) → n ≡ 0 → behind s n ≡ 0
 unfolding behind
-behind-past text n = rw drop-length
+behind-none [] n e = refl
+behind-none (b ∷ s) n e = rw e
+
+pub behind-past : (text : List ℕ) (at n : ℕ) → length text ≤ at → behind (drop at text) n ≡ 0
+unfolding behind
+behind-past text at n h = rw drop-of-length-le

@@ -1,8 +1,9 @@
 // Where an offset of a text is, as people count: its line and column, both from 1, and where that line lies.
 ghost use mathlib.Core.Path.{_≡_};
-ghost use Prim.Native.Nat.{_+_, _^_, _≤_, _<_, min};
+ghost use mathlib.Core.Bool.{cond};
+ghost use Prim.Native.Nat.{_+_, _-_, _^_, _≤_, _<_, min};
 ghost use lib.ListN.{length};
-ghost use Rattle.position.specs.Position.{isStart, positionOf, lineStart, lineEnd, sourceLine, behind, lineBehind};
+ghost use Rattle.position.specs.Position.{isNewline, isStart, positionOf, lineStart, lineEnd, sourceLine, behind, lineBehind};
 ghost use Rattle.position.specs.Laws.{next};
 
 pub struct Position {
@@ -108,6 +109,17 @@ pub fn source_line(text: &[u8], offset: usize) -> Extent
     }
 }
 
+// How many of some newlines are left to pass behind a byte.
+fn left_behind(newlines: usize, byte: u8) -> usize
+    requires { ⌜ 0 < newlines ⌝ }
+    ensures { λ r. ⌜ r ≡ newlines - cond (isNewline byte) 1 0 ⌝ }
+{
+    if byte == NEWLINE {
+        return newlines - 1;
+    }
+    newlines
+}
+
 // Where a text goes on behind so many newlines; its end where it has fewer.
 fn skip_lines(text: &[u8], newlines: usize) -> usize
     ensures { λ r. ⌜ r ≡ behind (now (text .entry)) newlines ⌝ }
@@ -118,9 +130,7 @@ fn skip_lines(text: &[u8], newlines: usize) -> usize
         if lines == 0 {
             return at;
         }
-        if text[at] == NEWLINE {
-            lines -= 1;
-        }
+        lines = left_behind(lines, text[at]);
         at += 1;
     }
     at
