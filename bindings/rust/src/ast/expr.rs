@@ -781,7 +781,8 @@ pub struct BlockExpr<'cst> {
 }
 
 impl<'cst> BlockExpr<'cst> {
-    pub(super) fn new(view: NodeView<'cst>) -> Option<Self> {
+    /// None of nodes that are no block.
+    pub fn new(view: NodeView<'cst>) -> Option<Self> {
         view.tells_node(accessor::BLOCK, 0).map(|view| Self { view })
     }
 
