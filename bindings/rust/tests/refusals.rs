@@ -16,7 +16,8 @@ use plank::{
 /// No word of a small tree.
 const FILL: u32 = 0xa5a5_a5a5;
 
-/// `raw::read` of `const a = 1;`, which has 9 tokens, 4 nodes and 2 value words, into slices full of `FILL`.
+/// `raw::read` of `const a = 1;`, which has 9 tokens, 4 nodes and 2 value words, into slices full
+/// of `FILL`.
 fn read(lengths: [usize; 4]) -> (Result<raw::Counts, Refusal>, [Vec<u32>; 4]) {
     let [mut tokens, mut nodes, mut values, mut reports] = lengths.map(|length| vec![FILL; length]);
     let answer = raw::read(b"const a = 1;", &mut tokens, &mut nodes, &mut values, &mut reports);
