@@ -153,8 +153,8 @@ fn the_header_has_a_function_for_each_accessor() {
 /// The heads of the functions that Rattle exports, each on one line.
 fn exported() -> BTreeMap<String, String> {
     let crates = PathBuf::from(env!("CARGO_MANIFEST_DIR")).join("../../crates");
-    let sources = ["exports", "view_exports"].map(|name| crates.join(name).join("src/lib.rt"));
-    let source: String = sources.iter().filter_map(|path| fs::read_to_string(path).ok()).collect();
+    let libs = fs::read_dir(crates).unwrap().map(|entry| entry.unwrap().path().join("src/lib.rt"));
+    let source: String = libs.filter_map(|path| fs::read_to_string(path).ok()).collect();
     let heads = source.split("pub extern \"C\" fn ").skip(1);
     heads
         .map(|head| {
