@@ -228,12 +228,12 @@ enum plank_value_tags {
     PLANK_VALUE_STRING = 2
 };
 
-/* The kinds of a report (crates/words/src/report.rt). */
+/* The kinds of a report (crates/words/src/report.rt), with what its detail is; of the others it is 0. */
 enum plank_report_kinds {
-    PLANK_REPORT_LEXER_ERROR = 1,
-    PLANK_REPORT_UNEXPECTED = 2,
-    PLANK_REPORT_MISSING_TOKEN = 3,
-    PLANK_REPORT_MISSING_SPECIFIC = 4,
+    PLANK_REPORT_LEXER_ERROR = 1,       /* enum plank_error_tokens */
+    PLANK_REPORT_UNEXPECTED = 2,        /* kind of the token that was found */
+    PLANK_REPORT_MISSING_TOKEN = 3,     /* kind of the token that is wanted */
+    PLANK_REPORT_MISSING_SPECIFIC = 4,  /* kind of the token that is wanted */
     PLANK_REPORT_BUILTIN_AS_NAME = 5,
     PLANK_REPORT_FIELD_AFTER_METHOD = 6,
     PLANK_REPORT_STAR_IN_GROUP = 7,
@@ -242,8 +242,8 @@ enum plank_report_kinds {
     PLANK_REPORT_NEEDLESS_BRACES = 10,
     PLANK_REPORT_NON_ASCII = 11,
     PLANK_REPORT_BAD_HEX_ESCAPE = 12,
-    PLANK_REPORT_UNKNOWN_ESCAPE = 13,
-    PLANK_REPORT_NON_HEX_DIGIT = 14,
+    PLANK_REPORT_UNKNOWN_ESCAPE = 13,   /* the character's Unicode number */
+    PLANK_REPORT_NON_HEX_DIGIT = 14,    /* the character's Unicode number */
     PLANK_REPORT_ODD_DIGITS = 15,
     PLANK_REPORT_BACKSLASH_AT_END = 16
 };
@@ -260,14 +260,14 @@ enum plank_error_tokens {
 
 /* The refusals (crates/words/src/refusal.rt), with what their place is. */
 enum plank_refusals {
-    PLANK_REFUSAL_NOT_UTF8 = 1,
-    PLANK_REFUSAL_TOO_LONG = 2,
-    PLANK_REFUSAL_TOO_DEEP = 3,
-    PLANK_REFUSAL_TOKENS_DONT_FIT = 4,
-    PLANK_REFUSAL_NODES_DONT_FIT = 5,
-    PLANK_REFUSAL_VALUES_DONT_FIT = 6,
-    PLANK_REFUSAL_REPORTS_DONT_FIT = 7,
-    PLANK_REFUSAL_ALTERED_NODES = 8
+    PLANK_REFUSAL_NOT_UTF8 = 1,         /* the text is not UTF-8; offset of the first bad sequence */
+    PLANK_REFUSAL_TOO_LONG = 2,         /* the text is over PLANK_MAX_TEXT bytes; PLANK_MAX_TEXT */
+    PLANK_REFUSAL_TOO_DEEP = 3,         /* nested too deep; the token that was reached */
+    PLANK_REFUSAL_TOKENS_DONT_FIT = 4,  /* the words that are needed, Eof included */
+    PLANK_REFUSAL_NODES_DONT_FIT = 5,   /* the token that was reached */
+    PLANK_REFUSAL_VALUES_DONT_FIT = 6,  /* the token that was reached */
+    PLANK_REFUSAL_REPORTS_DONT_FIT = 7, /* the token that was reached */
+    PLANK_REFUSAL_ALTERED_NODES = 8     /* only from views; the node that was looked at */
 };
 
 /* The accessors (crates/accessors/src/number.rt). */
@@ -426,7 +426,7 @@ enum plank_views {
 /* What the checked functions answer, in the place of a refusal's number, where they don't call the library: nothing is
  * written then, and the answer's place says which slice is meant (enum plank_slices). */
 enum plank_misuses {
-    PLANK_MISUSE_NULL = 256,   /* a null pointer with a length above 0 */
+    PLANK_MISUSE_NULL = 256,   /* a null pointer with a length above 0, or no span to write */
     PLANK_MISUSE_LENGTH = 257, /* more words than memory can have */
     PLANK_MISUSE_OVERLAP = 258 /* a slice that is written overlaps one that stands before it in the list */
 };
