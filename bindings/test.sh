@@ -2,9 +2,11 @@
 # Tests the bindings against libexports.a: the header and its example with C and C++ compilers, then the crate.
 # PLANK_LIB names the library's folder, target/staticlib without it. What is built goes to target/.
 set -eu
-cd "$(dirname "$0")/.."
-export PLANK_LIB="${PLANK_LIB:-$PWD/target/staticlib}"
-export CARGO_TARGET_DIR="${CARGO_TARGET_DIR:-$PWD/target/bindings}"
+project="$(cd "$(dirname "$0")/.." && pwd)"
+PLANK_LIB="$(realpath -m "${PLANK_LIB:-$project/target/staticlib}")"
+CARGO_TARGET_DIR="$(realpath -m "${CARGO_TARGET_DIR:-$project/target/bindings}")"
+export PLANK_LIB CARGO_TARGET_DIR
+cd "$project"
 if [ ! -e "$PLANK_LIB/libexports.a" ]; then
     echo "$PLANK_LIB/libexports.a is not there: \`rt staticlib exports\` writes it, PLANK_LIB names its folder" >&2
     exit 2
@@ -14,7 +16,6 @@ mkdir -p "$built"
 
 for compiler in "cc -std=c11" "c++ -x c++ -std=c++11"; do
     for program in test example; do
-        # The library follows the language flag off, as it is no source.
         $compiler -Wall -Wextra -Werror -pedantic "bindings/c/$program.c" -x none "$PLANK_LIB/libexports.a" -o "$built/$program"
     done
     "$built/test"

@@ -46,7 +46,8 @@ static void print_reports(struct plank_words reports, uint64_t count) {
     }
 }
 
-/* The name of each constant of the file, which is node 0. Declarations that are no constant, or lack a name, tell none. */
+/* The name of each constant of the file, which is node 0. Declarations that are no constant, or lack a name, tell
+ * none. */
 static void print_constants(size_t text_len, const struct words *lent) {
     const uint32_t *nodes = lent->nodes.words;
     size_t len = lent->nodes.len;

@@ -1,18 +1,20 @@
-/* The Plank script reader, for C (C11) and C++ (C++11). The library is libexports.a, which `rt staticlib exports` writes.
+/* The Plank script reader, for C (C11) and C++ (C++11). The library is libexports.a, which `rt staticlib exports`
+ * writes.
  *
  * Which names to use:
  *   plank_checked_lex, plank_checked_read      a text to words
  *   plank_const_decl_name, plank_expr, ..      what a node says, one function for each accessor ("Views" below)
  *   plank_node_at, plank_report_at, ..         words taken apart
  *   PLANK_TOKEN_.., PLANK_NODE_.., ..          the numbers
- * All of these may be given a null pointer with length 0, and answer a null pointer with a length above 0, slices that
- * overlap and lengths that no memory has by a number of their own (enum plank_misuses).
- * The library's own symbols are plank_lex, plank_read, plank_view, plank_view_span and plank_view_count. They are proved for
- * all slices, but a slice is a promise of the caller's: pointers that aren't null, are aligned and stand for so much memory,
- * and none that is written overlapping another. The checked functions keep that promise where it can be checked.
+ * All of these may be given a null pointer with length 0, and answer a null pointer with a length above 0, slices
+ * that overlap and lengths that no memory has by a number of their own (enum plank_misuses). The library's own
+ * symbols are plank_lex, plank_read, plank_view, plank_view_span and plank_view_count. They are proved for all
+ * slices, but a slice is a promise of the caller's: pointers that aren't null, are aligned and stand for so much
+ * memory, and none that is written overlapping another. The checked functions keep that promise where it can be
+ * checked.
  *
- * Who owns what: the caller owns all memory. The library allocates nothing, keeps no pointer after it returns, has no state,
- * and may be called from several threads at once. A text is only read; it needs no 0 at its end.
+ * Who owns what: the caller owns all memory. The library allocates nothing, keeps no pointer after it returns, has no
+ * state, and may be called from several threads at once. A text is only read; it needs no 0 at its end.
  *
  * docs/FORMAT.md says what the words mean.
  */
@@ -226,12 +228,12 @@ enum plank_value_tags {
     PLANK_VALUE_STRING = 2
 };
 
-/* The kinds of a report (crates/words/src/report.rt). */
+/* The kinds of a report (crates/words/src/report.rt), with what its detail is; of the others it is 0. */
 enum plank_report_kinds {
-    PLANK_REPORT_LEXER_ERROR = 1,
-    PLANK_REPORT_UNEXPECTED = 2,
-    PLANK_REPORT_MISSING_TOKEN = 3,
-    PLANK_REPORT_MISSING_SPECIFIC = 4,
+    PLANK_REPORT_LEXER_ERROR = 1,       /* enum plank_error_tokens */
+    PLANK_REPORT_UNEXPECTED = 2,        /* kind of the token that was found */
+    PLANK_REPORT_MISSING_TOKEN = 3,     /* kind of the token that is wanted */
+    PLANK_REPORT_MISSING_SPECIFIC = 4,  /* kind of the token that is wanted */
     PLANK_REPORT_BUILTIN_AS_NAME = 5,
     PLANK_REPORT_FIELD_AFTER_METHOD = 6,
     PLANK_REPORT_STAR_IN_GROUP = 7,
@@ -240,8 +242,8 @@ enum plank_report_kinds {
     PLANK_REPORT_NEEDLESS_BRACES = 10,
     PLANK_REPORT_NON_ASCII = 11,
     PLANK_REPORT_BAD_HEX_ESCAPE = 12,
-    PLANK_REPORT_UNKNOWN_ESCAPE = 13,
-    PLANK_REPORT_NON_HEX_DIGIT = 14,
+    PLANK_REPORT_UNKNOWN_ESCAPE = 13,   /* the character's Unicode number */
+    PLANK_REPORT_NON_HEX_DIGIT = 14,    /* the character's Unicode number */
     PLANK_REPORT_ODD_DIGITS = 15,
     PLANK_REPORT_BACKSLASH_AT_END = 16
 };
@@ -258,14 +260,14 @@ enum plank_error_tokens {
 
 /* The refusals (crates/words/src/refusal.rt), with what their place is. */
 enum plank_refusals {
-    PLANK_REFUSAL_NOT_UTF8 = 1,
-    PLANK_REFUSAL_TOO_LONG = 2,
-    PLANK_REFUSAL_TOO_DEEP = 3,
-    PLANK_REFUSAL_TOKENS_DONT_FIT = 4,
-    PLANK_REFUSAL_NODES_DONT_FIT = 5,
-    PLANK_REFUSAL_VALUES_DONT_FIT = 6,
-    PLANK_REFUSAL_REPORTS_DONT_FIT = 7,
-    PLANK_REFUSAL_ALTERED_NODES = 8
+    PLANK_REFUSAL_NOT_UTF8 = 1,         /* the text is not UTF-8; offset of the first bad sequence */
+    PLANK_REFUSAL_TOO_LONG = 2,         /* the text is over PLANK_MAX_TEXT bytes; PLANK_MAX_TEXT */
+    PLANK_REFUSAL_TOO_DEEP = 3,         /* nested too deep; the token that was reached */
+    PLANK_REFUSAL_TOKENS_DONT_FIT = 4,  /* the words that are needed, Eof included */
+    PLANK_REFUSAL_NODES_DONT_FIT = 5,   /* the token that was reached */
+    PLANK_REFUSAL_VALUES_DONT_FIT = 6,  /* the token that was reached */
+    PLANK_REFUSAL_REPORTS_DONT_FIT = 7, /* the token that was reached */
+    PLANK_REFUSAL_ALTERED_NODES = 8     /* only from views; the node that was looked at */
 };
 
 /* The accessors (crates/accessors/src/number.rt). */
@@ -424,7 +426,7 @@ enum plank_views {
 /* What the checked functions answer, in the place of a refusal's number, where they don't call the library: nothing is
  * written then, and the answer's place says which slice is meant (enum plank_slices). */
 enum plank_misuses {
-    PLANK_MISUSE_NULL = 256,   /* a null pointer with a length above 0 */
+    PLANK_MISUSE_NULL = 256,   /* a null pointer with a length above 0, or no span to write */
     PLANK_MISUSE_LENGTH = 257, /* more words than memory can have */
     PLANK_MISUSE_OVERLAP = 258 /* a slice that is written overlaps one that stands before it in the list */
 };
@@ -438,8 +440,8 @@ enum plank_slices {
     PLANK_SLICE_SPAN = 5
 };
 
-/* ---- Answers. One number of 64 bits: a number of 32 bits, PLANK_NONE (only from views), or a refusal's number (or a misuse)
- * times 2 to the 32nd and its place. */
+/* ---- Answers. One number of 64 bits: a number of 32 bits, PLANK_NONE (only from views), or a refusal's number (or a
+ * misuse) times 2 to the 32nd and its place. */
 
 #define PLANK_NONE (UINT64_C(1) << 63)
 
@@ -464,33 +466,33 @@ static inline uint32_t plank_place(uint64_t answer) {
 
 /* ---- The library's own symbols. Slices are two parameters, pointer and length; see above for what they promise. */
 
-/* Lexes a text. The number of tokens, which stand first in `tokens` with 0 behind them; or refusal 2, 1 or 4, which leaves
- * all of `tokens` 0. */
+/* Lexes a text. The number of tokens, which stand first in `tokens` with 0 behind them; or refusal 2, 1 or 4, which
+ * leaves all of `tokens` 0. */
 uint64_t plank_lex(const uint8_t *text, size_t text_len, uint32_t *tokens, size_t tokens_len);
 
-/* Reads a text. 0, and the four slices written, each with 0 behind what was made, and in `counts`, if it has four numbers,
- * how many tokens, nodes, value words and reports there are. Or a refusal from 1 to 7, which leaves all of the four slices 0
- * and `counts` as it was. */
+/* Reads a text. 0, and the four slices written, each with 0 behind what was made, and in `counts`, if it has four
+ * numbers, how many tokens, nodes, value words and reports there are. Or a refusal from 1 to 7, which leaves all of
+ * the four slices 0 and `counts` as it was. */
 uint64_t plank_read(const uint8_t *text, size_t text_len, uint32_t *tokens, size_t tokens_len, uint32_t *nodes,
                     size_t nodes_len, uint32_t *values, size_t values_len, uint32_t *reports, size_t reports_len,
                     uint64_t *counts, size_t counts_len);
 
-/* What the accessor `which` tells of node `n`: a number, PLANK_NONE, or refusal 8. Accessors of lists tell their i-th. The
- * nodes are only read. Any words and any numbers may be given: none is told by an accessor that isn't there, by one that
- * tells tokens or counts, of a node of another kind, and of a child that is missing. */
+/* What the accessor `which` tells of node `n`: a number, PLANK_NONE, or refusal 8. Accessors of lists tell their
+ * i-th. The nodes are only read. Any words and any numbers may be given: none is told by an accessor that isn't
+ * there, by one that tells tokens or counts, of a node of another kind, and of a child that is missing. */
 uint64_t plank_view(uint32_t which, const uint32_t *nodes, size_t nodes_len, uint32_t n, uint32_t i);
 
-/* The same of accessors that tell tokens (.._SPAN): 0, and in `span`, if it has two words, the first token and the one past
- * the last; none and a refusal leave `span` as it was. */
+/* The same of accessors that tell tokens (.._SPAN): 0, and in `span`, if it has two words, the first token and the
+ * one past the last; none and a refusal leave `span` as it was. */
 uint64_t plank_view_span(uint32_t which, const uint32_t *nodes, size_t nodes_len, uint32_t n, uint32_t *span,
                          size_t span_len);
 
 /* The same of accessors that count (.._COUNT). */
 uint64_t plank_view_count(uint32_t which, const uint32_t *nodes, size_t nodes_len, uint32_t n);
 
-/* ---- Lengths that always suffice for a text of so many bytes, in words. A text over PLANK_MAX_TEXT is refused whatever the
- * lengths are. The first is exact at its worst, as every token but Eof has a byte; the others are argued for in
- * bindings/README.md. With less, a text may still fit: refusals 4 to 7 say that it doesn't. */
+/* ---- Lengths that always suffice for a text of so many bytes, in words. A text over PLANK_MAX_TEXT is refused
+ * whatever the lengths are. The first is exact at its worst, as every token but Eof has a byte; the others are argued
+ * for in bindings/README.md. With less, a text may still fit: refusals 4 to 7 say that it doesn't. */
 
 static inline size_t plank_text_counted(size_t text_len) {
     return text_len < PLANK_MAX_TEXT ? text_len : PLANK_MAX_TEXT;
@@ -559,21 +561,20 @@ static inline int plank_overlap(const void *a, size_t a_bytes, const void *b, si
 }
 
 /* 0 where the text and the words behind it may be lent, else the first misuse. */
-static inline uint64_t plank_check_lent(const uint8_t *text, size_t text_len, const struct plank_words *lent, size_t count) {
+static inline uint64_t plank_check_lent(const uint8_t *text, size_t text_len, const struct plank_words *lent,
+                                        size_t count) {
     uint64_t misuse = plank_check_slice(text, text_len, 1, PLANK_SLICE_TEXT);
     size_t i, j;
     for (i = 0; misuse == 0 && i < count; i++) {
         uint32_t slice = (uint32_t)(PLANK_SLICE_TOKENS + i);
+        size_t bytes = lent[i].len * sizeof(uint32_t);
         misuse = plank_check_slice(lent[i].words, lent[i].len, sizeof(uint32_t), slice);
-        if (misuse != 0) {
-            break;
+        if (misuse == 0 && plank_overlap(text, text_len, lent[i].words, bytes)) {
+            misuse = plank_misuse(PLANK_MISUSE_OVERLAP, slice);
         }
-        if (plank_overlap(text, text_len, lent[i].words, lent[i].len * sizeof(uint32_t))) {
-            return plank_misuse(PLANK_MISUSE_OVERLAP, slice);
-        }
-        for (j = 0; j < i; j++) {
-            if (plank_overlap(lent[j].words, lent[j].len * sizeof(uint32_t), lent[i].words, lent[i].len * sizeof(uint32_t))) {
-                return plank_misuse(PLANK_MISUSE_OVERLAP, slice);
+        for (j = 0; misuse == 0 && j < i; j++) {
+            if (plank_overlap(lent[j].words, lent[j].len * sizeof(uint32_t), lent[i].words, bytes)) {
+                misuse = plank_misuse(PLANK_MISUSE_OVERLAP, slice);
             }
         }
     }
@@ -593,8 +594,8 @@ static inline uint64_t plank_checked_lex(const uint8_t *text, size_t text_len, s
 
 /* plank_read: 0, a refusal or a misuse. `counts` may be null; unless the answer is 0 all of its numbers are 0. */
 static inline uint64_t plank_checked_read(const uint8_t *text, size_t text_len, struct plank_words tokens,
-                                          struct plank_words nodes, struct plank_words values, struct plank_words reports,
-                                          struct plank_counts *counts) {
+                                          struct plank_words nodes, struct plank_words values,
+                                          struct plank_words reports, struct plank_counts *counts) {
     uint32_t nowhere = 0;
     uint64_t told[4] = {0, 0, 0, 0};
     struct plank_words lent[4];
@@ -610,7 +611,8 @@ static inline uint64_t plank_checked_read(const uint8_t *text, size_t text_len, 
             lent[i].words = lent[i].words == NULL ? &nowhere : lent[i].words;
         }
         answer = plank_read(text == NULL ? (const uint8_t *)&nowhere : text, text_len, lent[0].words, lent[0].len,
-                            lent[1].words, lent[1].len, lent[2].words, lent[2].len, lent[3].words, lent[3].len, told, 4);
+                            lent[1].words, lent[1].len, lent[2].words, lent[2].len, lent[3].words, lent[3].len,
+                            told, 4);
     }
     if (counts != NULL) {
         counts->tokens = told[0];
@@ -638,8 +640,8 @@ struct plank_part {
     size_t len;
 };
 
-/* The part of the text that token `i` covers. A token number past the words, or ends that fall or pass the text, give the
- * empty part. */
+/* The part of the text that token `i` covers. A token number past the words, or ends that fall or pass the text, give
+ * the empty part. */
 static inline struct plank_part plank_spelling(const uint8_t *text, size_t text_len, const uint32_t *tokens,
                                                size_t tokens_len, size_t i) {
     struct plank_part part = {text, 0};
@@ -708,8 +710,8 @@ struct plank_value {
     const uint32_t *words; /* limbs, least first; or bytes, four to a word, first lowest */
 };
 
-/* 1, and the value at an offset (the payload of a NumLiteral or StringLiteral); 0, and nothing written, where no whole value
- * stands there. */
+/* 1, and the value at an offset (the payload of a NumLiteral or StringLiteral); 0, and nothing written, where no
+ * whole value stands there. */
 static inline int plank_value_at(const uint32_t *values, size_t values_len, size_t offset, struct plank_value *value) {
     uint32_t tag, count;
     size_t words;
@@ -736,11 +738,12 @@ static inline uint8_t plank_value_byte(struct plank_value value, uint32_t i) {
     return (uint8_t)(value.words[i / 4] >> (8 * (i % 4)));
 }
 
-/* ---- Views, checked: plank_view, plank_view_span and plank_view_count, and after them one function for each accessor. All
- * tell a number, PLANK_NONE, refusal 8 or a misuse. What a number is, a node, a name, a flag or an operator, docs/FORMAT.md
- * and the accessor's namesake in the Rust parser say. */
+/* ---- Views, checked: plank_view, plank_view_span and plank_view_count, and after them one function for each
+ * accessor. All tell a number, PLANK_NONE, refusal 8 or a misuse. What a number is, a node, a name, a flag or an
+ * operator, docs/FORMAT.md and the accessor's namesake in the Rust parser say. */
 
-static inline uint64_t plank_checked_view(uint32_t which, const uint32_t *nodes, size_t nodes_len, uint32_t n, uint32_t i) {
+static inline uint64_t plank_checked_view(uint32_t which, const uint32_t *nodes, size_t nodes_len, uint32_t n,
+                                          uint32_t i) {
     uint32_t nowhere = 0;
     uint64_t misuse = plank_check_slice(nodes, nodes_len, sizeof(uint32_t), PLANK_SLICE_NODES);
     return misuse != 0 ? misuse : plank_view(which, nodes == NULL ? &nowhere : nodes, nodes_len, n, i);
@@ -773,24 +776,25 @@ static inline uint64_t plank_checked_view_count(uint32_t which, const uint32_t *
 }
 
 /* uint64_t plank_binary_expr_lhs(nodes, len, n) */
-#define PLANK_NUMBER_VIEW(name, NAME)                                                             \
-    static inline uint64_t plank_##name(const uint32_t *nodes, size_t len, uint32_t n) {          \
-        return plank_checked_view(PLANK_VIEW_##NAME, nodes, len, n, 0);                           \
+#define PLANK_NUMBER_VIEW(name, NAME)                                                    \
+    static inline uint64_t plank_##name(const uint32_t *nodes, size_t len, uint32_t n) { \
+        return plank_checked_view(PLANK_VIEW_##NAME, nodes, len, n, 0);                  \
     }
 /* uint64_t plank_call_expr_arg(nodes, len, n, i) */
-#define PLANK_ITEM_VIEW(name, NAME)                                                               \
+#define PLANK_ITEM_VIEW(name, NAME)                                                                  \
     static inline uint64_t plank_##name(const uint32_t *nodes, size_t len, uint32_t n, uint32_t i) { \
-        return plank_checked_view(PLANK_VIEW_##NAME, nodes, len, n, i);                           \
+        return plank_checked_view(PLANK_VIEW_##NAME, nodes, len, n, i);                              \
     }
 /* uint64_t plank_binary_expr_op_span(nodes, len, n, &span) */
-#define PLANK_SPAN_VIEW(name, NAME)                                                               \
-    static inline uint64_t plank_##name(const uint32_t *nodes, size_t len, uint32_t n, struct plank_token_span *span) { \
-        return plank_checked_view_span(PLANK_VIEW_##NAME, nodes, len, n, span);                   \
+#define PLANK_SPAN_VIEW(name, NAME)                                                    \
+    static inline uint64_t plank_##name(const uint32_t *nodes, size_t len, uint32_t n, \
+                                        struct plank_token_span *span) {               \
+        return plank_checked_view_span(PLANK_VIEW_##NAME, nodes, len, n, span);        \
     }
 /* uint64_t plank_call_expr_arg_count(nodes, len, n) */
-#define PLANK_COUNT_VIEW(name, NAME)                                                              \
-    static inline uint64_t plank_##name(const uint32_t *nodes, size_t len, uint32_t n) {          \
-        return plank_checked_view_count(PLANK_VIEW_##NAME, nodes, len, n);                        \
+#define PLANK_COUNT_VIEW(name, NAME)                                                     \
+    static inline uint64_t plank_##name(const uint32_t *nodes, size_t len, uint32_t n) { \
+        return plank_checked_view_count(PLANK_VIEW_##NAME, nodes, len, n);               \
     }
 
 /* Any node, and which node an expression is. */

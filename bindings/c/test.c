@@ -1,4 +1,5 @@
-/* What plank.h answers, for a good text and for wrong use. Prints nothing and ends with 0, or stops at the line that fails. */
+/* What plank.h answers, for a good text and for wrong use. Prints nothing and ends with 0, or stops at the line that
+ * fails. */
 #include "plank.h"
 
 #include <stdio.h>

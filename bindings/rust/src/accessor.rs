@@ -1,6 +1,7 @@
-//! The numbers of the accessors, for the views of [`raw`](crate::raw), as crates/accessors/src/number.rt has them (a unit test compares).
-//! Those named `.._SPAN` are for [`raw::span`](crate::raw::span), those named `.._COUNT` for [`raw::count`](crate::raw::count), all others
-//! for [`raw::number`](crate::raw::number).
+//! The numbers of the accessors, for the views of [`raw`](crate::raw), as
+//! crates/accessors/src/number.rt has them (a unit test compares). Those named `.._SPAN` are for
+//! [`raw::span`](crate::raw::span), those named `.._COUNT` for [`raw::count`](crate::raw::count),
+//! all others for [`raw::number`](crate::raw::number).
 
 // Any node, and which node an expression is.
 pub const KIND: u32 = 0;

@@ -19,8 +19,8 @@ index! {
 }
 
 index! {
-    /// A name: the first token that is spelled so. Two names of a tree are spelled alike where these are equal, a builtin's
-    /// apart from others.
+    /// A name: the first token that is spelled so. Two names of a tree are spelled alike where
+    /// these are equal, a builtin's apart from others.
     StrId
 }
 
@@ -242,7 +242,8 @@ impl Node {
 pub enum Altered {
     /// A token with a kind that there isn't.
     Token(TokenIdx),
-    /// Refusal 8: a node that links past the words, has a kind that there isn't or a next sibling not above it; or node 0 isn't there.
+    /// Refusal 8: a node that links past the words, has a kind that there isn't or a next sibling
+    /// not above it; or node 0 isn't there.
     Node(Refusal),
     /// Node 0 is no File.
     NoFile,
@@ -308,8 +309,9 @@ impl ConcreteSyntaxTree {
         Ok(tree.expect("words of a library that this crate is for"))
     }
 
-    /// A tree of words that were kept, such as an archive's. They are checked so far that all views can answer and that a walk from
-    /// the file ends. Whether they are the text's, only reading it again and comparing shows.
+    /// A tree of words that were kept, such as an archive's. They are checked so far that all views
+    /// can answer and that a walk from the file ends. Whether they are the text's, only reading it
+    /// again and comparing shows.
     pub fn from_words(
         source: &str,
         tokens: Vec<u32>,
@@ -370,7 +372,8 @@ impl ConcreteSyntaxTree {
         NodeView { cst: self, idx: Self::FILE_IDX }
     }
 
-    /// The part of the text that a name is, of a builtin with its `@`; the empty part past the tokens.
+    /// The part of the text that a name is, of a builtin with its `@`; the empty part past the
+    /// tokens.
     pub fn name(&self, name: StrId) -> &str {
         self.lexed.token_src_span(TokenIdx::new(name.get())).map_or("", |span| self.part(span))
     }
@@ -411,7 +414,8 @@ impl ConcreteSyntaxTree {
     }
 }
 
-/// Every node can be looked at, links a node that is there, and is linked once at most: no walk from the file comes back to a node.
+/// Every node can be looked at, links a node that is there, and is linked once at most: no walk
+/// from the file comes back to a node.
 fn check_nodes(nodes: &[u32]) -> Result<(), Altered> {
     let (all, []) = nodes.as_chunks::<NODE_WIDTH>() else { return Err(Altered::LeftOver) };
     let mut linked = vec![false; all.len()];

@@ -154,7 +154,8 @@ impl Lexed {
         Some(Span::new(self.token_src_start(index)?, self.end(index)?))
     }
 
-    /// The part of the text from the first token on, up to where the end token starts. None past the tokens.
+    /// The part of the text from the first token on, up to where the end token starts. None past
+    /// the tokens.
     pub fn tokens_src_span(&self, tokens: TokenSpan) -> Option<SourceSpan> {
         Some(Span::new(self.token_src_start(tokens.start)?, self.token_src_start(tokens.end)?))
     }

@@ -1,8 +1,9 @@
 //! The reader of Plank scripts, whose answers are proved, for programs in Rust.
 //!
-//! [`parse`] reads a text and gives its tree with all tokens, values and reports, or a [`Refusal`]. The names are those of the
-//! Plank parser in Rust: [`Lexed`](lexer::Lexed), [`NodeView`](cst::NodeView), [`Expr`](ast::Expr) and so on. What
-//! a tree says is asked of the library's views; [`raw`] has these, and lexing and reading, on plain slices of words.
+//! [`parse`] reads a text and gives its tree with all tokens, values and reports, or a [`Refusal`].
+//! The names are those of the Plank parser in Rust: [`Lexed`](lexer::Lexed),
+//! [`NodeView`](cst::NodeView), [`Expr`](ast::Expr) and so on. What a tree says is asked of the
+//! library's views; [`raw`] has these, and lexing and reading, on plain slices of words.
 //!
 //! Memory is Rust's throughout: the library is lent slices and keeps none.
 //!

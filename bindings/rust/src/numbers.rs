@@ -1,4 +1,5 @@
-//! The numbers of 01's words. The unit test below compares each with the Rattle source that is named above it, and with `plank.h`.
+//! The numbers of 01's words. The unit test below compares each with the Rattle source that is
+//! named above it, and with `plank.h`.
 
 /// An enum without fields whose cases have the numbers that are written out.
 macro_rules! numbered {

@@ -1,6 +1,8 @@
-//! The library's calls on plain slices of words, for any words: those of an archive, or of a reading into memory of one's own.
+//! The library's calls on plain slices of words, for any words: those of an archive, or of a
+//! reading into memory of one's own.
 //!
-//! A slice may have any length and any words. Refusals say what doesn't fit and what was altered; nothing here panics.
+//! A slice may have any length and any words. Refusals say what doesn't fit and what was altered;
+//! nothing here panics.
 
 use crate::{
     ffi,
@@ -31,8 +33,9 @@ pub struct Lengths {
 }
 
 impl Lengths {
-    /// Lengths that always suffice for a text of so many bytes; a text that is too long is refused whatever they are. Every token
-    /// but Eof has a byte; bindings/README.md argues for three nodes, two value words and two reports for a byte.
+    /// Lengths that always suffice for a text of so many bytes; a text that is too long is refused
+    /// whatever they are. Every token but Eof has a byte; bindings/README.md argues for three
+    /// nodes, two value words and two reports for a byte.
     pub fn enough(text_len: usize) -> Self {
         let n = text_len.min(MAX_TEXT);
         Lengths {
@@ -44,7 +47,8 @@ impl Lengths {
     }
 }
 
-/// Lexes a text: the number of tokens, which stand first in `tokens` with 0 behind them. A refusal leaves all of them 0.
+/// Lexes a text: the number of tokens, which stand first in `tokens` with 0 behind them. A refusal
+/// leaves all of them 0.
 pub fn lex(text: &[u8], tokens: &mut [u32]) -> Result<usize, Refusal> {
     match ffi::lex(text, tokens) {
         count if count <= u64::from(u32::MAX) => Ok(count as usize),
@@ -52,7 +56,8 @@ pub fn lex(text: &[u8], tokens: &mut [u32]) -> Result<usize, Refusal> {
     }
 }
 
-/// Reads a text: the counts of what stands first in the four slices, with 0 behind it. A refusal leaves all of them 0.
+/// Reads a text: the counts of what stands first in the four slices, with 0 behind it. A refusal
+/// leaves all of them 0.
 pub fn read(
     text: &[u8],
     tokens: &mut [u32],

@@ -1,4 +1,5 @@
-//! `Lengths::enough` is enough: for the worst rows of one token after another, and for generated texts.
+//! `Lengths::enough` is enough: for the worst rows of one token after another, and for generated
+//! texts.
 
 use plank::{Refusal, raw::Lengths};
 

@@ -1,15 +1,25 @@
 //! Refusals, and what wrong use is answered with.
 
+#[path = "../examples/constants.rs"]
+#[allow(dead_code)]
+mod constants;
+
+use constants::Shape;
 use plank::{
     Altered, ConcreteSyntaxTree, Lexed, Refusal, accessor,
+    ast::{BlockExpr, Expr, Statement, TopLevelDef},
     cst::{BytesId, NodeIdx, NodeView, NumLitId, StrId},
     lexer::{SourceByteOffset, TokenIdx},
     raw,
 };
 
-/// `raw::read` of `const a = 1;`, which has 9 tokens, 4 nodes and 2 value words, into slices full of 7.
+/// No word of a small tree.
+const FILL: u32 = 0xa5a5_a5a5;
+
+/// `raw::read` of `const a = 1;`, which has 9 tokens, 4 nodes and 2 value words, into slices full
+/// of `FILL`.
 fn read(lengths: [usize; 4]) -> (Result<raw::Counts, Refusal>, [Vec<u32>; 4]) {
-    let [mut tokens, mut nodes, mut values, mut reports] = lengths.map(|length| vec![7; length]);
+    let [mut tokens, mut nodes, mut values, mut reports] = lengths.map(|length| vec![FILL; length]);
     let answer = raw::read(b"const a = 1;", &mut tokens, &mut nodes, &mut values, &mut reports);
     (answer, [tokens, nodes, values, reports])
 }
@@ -18,7 +28,7 @@ fn read(lengths: [usize; 4]) -> (Result<raw::Counts, Refusal>, [Vec<u32>; 4]) {
 fn slices_of_just_enough_words_are_written() {
     let (answer, words) = read([9, 20, 2, 0]);
     assert_eq!(answer, Ok(raw::Counts { tokens: 9, nodes: 4, values: 2, reports: 0 }));
-    assert!(words.iter().flatten().all(|word| *word != 7));
+    assert!(words.iter().flatten().all(|word| *word != FILL));
     let (_, longer) = read([12, 26, 3, 5]);
     for (just, longer) in words.iter().zip(&longer) {
         assert_eq!(longer[..just.len()], just[..]);
@@ -41,11 +51,11 @@ fn short_slices_are_refused_and_left_0() {
         assert_eq!(answer, Err(refusal), "{lengths:?}");
         assert!(words.iter().flatten().all(|word| *word == 0));
     }
-    let mut nodes = [7; 5];
+    let mut nodes = [FILL; 5];
     let answer = raw::read(b"a", &mut [0; 2], &mut nodes, &mut [], &mut []);
     assert_eq!(answer, Err(Refusal::ReportsDontFit { token: token(0) }));
     assert_eq!(nodes, [0; 5]);
-    let mut tokens = [7; 8];
+    let mut tokens = [FILL; 8];
     assert_eq!(raw::lex(b"const a = 1;", &mut tokens), Err(Refusal::TokensDontFit { needed }));
     assert_eq!(tokens, [0; 8]);
 }
@@ -165,11 +175,15 @@ fn any_words_that_link_a_tree_can_be_viewed() {
 fn walk(tree: &ConcreteSyntaxTree) {
     for n in 0..tree.node_count() {
         let view = NodeView::new(tree, NodeIdx::new(n)).unwrap();
-        // `Debug` asks for all fields.
-        let def = format!("{:?}", plank::ast::TopLevelDef::new(view));
-        let expr = format!("{:?}", plank::ast::Expr::new(view));
-        let statement = format!("{:?}", plank::ast::Statement::new(view));
-        assert!(!def.is_empty() && !expr.is_empty() && !statement.is_empty());
+        // `Debug` asks for all fields, `Shape` for all parts.
+        assert_ne!(format!("{:?}", TopLevelDef::new(view)), "");
+        assert_ne!(format!("{:?}", Statement::new(view)), "");
+        if let Some(expr) = Expr::new(view) {
+            assert_ne!(Shape(tree).expr(expr), "");
+        }
+        if let Some(block) = BlockExpr::new(view) {
+            assert_ne!(Shape(tree).block(block), "");
+        }
     }
 }
 

@@ -21,7 +21,7 @@ pub use m::n::{x, y as z};
 const typed: u256 = -1;
 const big = 0xff_0000_0001;
 const string = "a\x41" hex"42";
-const tuple = (1, (true),);
+const pair = (1, (true),);
 const unit = ();
 const types = tuple { u8, Self };
 const function = eager fn(comptime n: u8, x: $T, y: T) T { return x; };
@@ -56,7 +56,7 @@ const SHAPES: &[(&str, &str)] = &[
     ("typed", "(- 1)"),
     ("big", "0xff00000001"),
     ("string", "\"aAB\""),
-    ("tuple", "(tuple 1 true)"),
+    ("pair", "(tuple 1 true)"),
     ("unit", "(tuple)"),
     ("types", "(tuple-type u8 Self)"),
     ("function", "(eager-fn comptime-n:u8 x:$T y:T T {return x;})"),

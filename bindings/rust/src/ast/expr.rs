@@ -35,7 +35,8 @@ impl<'cst> Expr<'cst> {
         Expr::new(view).unwrap_or(Expr::Error { span: view.span() })
     }
 
-    /// The expression that a node is, without brackets around it. None of nodes that are no expressions.
+    /// The expression that a node is, without brackets around it. None of nodes that are no
+    /// expressions.
     pub fn new(view: NodeView<'cst>) -> Option<Self> {
         match view.tells_node(accessor::EXPR, 0) {
             Some(whole) => Self::whole(whole),
@@ -71,13 +72,15 @@ impl<'cst> Expr<'cst> {
         expr.or_else(|| Self::broken(view))
     }
 
-    /// Of a node of which `EXPR` tells none: an Error, an expression that lacks a part, or no expression.
+    /// Of a node of which `EXPR` tells none: an Error, an expression that lacks a part, or no
+    /// expression.
     fn broken(view: NodeView<'cst>) -> Option<Self> {
         let inner = view.peeled();
         inner.kind().expr_requires_semi_as_stmt().map(|_| Expr::Error { span: inner.span() })
     }
 
-    /// The expression that an accessor tells, which stands in child `i`; `Err(span)` where there is no such child, or it is no expression.
+    /// The expression that an accessor tells, which stands in child `i`; `Err(span)` where there is
+    /// no such child, or it is no expression.
     pub(super) fn part(view: NodeView<'cst>, which: u32, i: u32) -> Result<Self, TokenSpan> {
         let part = match view.tells_node(which, 0) {
             Some(whole) => Self::whole(whole),
@@ -86,7 +89,8 @@ impl<'cst> Expr<'cst> {
         part.ok_or(view.span())
     }
 
-    /// The same with an `Expr::Error` that has the child's span, or the node's where there is no child.
+    /// The same with an `Expr::Error` that has the child's span, or the node's where there is no
+    /// child.
     fn part_unwrap(view: NodeView<'cst>, which: u32, i: u32) -> Self {
         Self::part(view, which, i).unwrap_or_else(|span| {
             let span = view.child(i).map_or(span, NodeView::span);
@@ -781,7 +785,8 @@ pub struct BlockExpr<'cst> {
 }
 
 impl<'cst> BlockExpr<'cst> {
-    pub(super) fn new(view: NodeView<'cst>) -> Option<Self> {
+    /// None of nodes that are no block.
+    pub fn new(view: NodeView<'cst>) -> Option<Self> {
         view.tells_node(accessor::BLOCK, 0).map(|view| Self { view })
     }
 

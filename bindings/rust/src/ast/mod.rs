@@ -1,5 +1,6 @@
-//! Views of declarations (ast/mod.rs of the Plank parser). What a node says is asked of the library's accessors; lists go from link
-//! to link. Where the Plank parser would panic on a node that lacks a part, the node's span is handed out as an error.
+//! Views of declarations (ast/mod.rs of the Plank parser). What a node says is asked of the
+//! library's accessors; lists go from link to link. Where the Plank parser would panic on a node
+//! that lacks a part, the node's span is handed out as an error.
 
 mod expr;
 
@@ -134,7 +135,8 @@ impl<'cst> Import<'cst> {
         self.first_path_segment_span
     }
 
-    /// The segments that determine the imported file: of `use m::sub::X;` and of `use m::sub::*;` it is `m::sub`.
+    /// The segments that determine the imported file: of `use m::sub::X;` and of `use m::sub::*;`
+    /// it is `m::sub`.
     pub fn file_path_span(&self) -> TokenSpan {
         let span = self.view.tells_span(accessor::IMPORT_FILE_PATH_SPAN);
         span.unwrap_or(self.first_path_segment_span)
