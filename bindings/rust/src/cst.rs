@@ -445,7 +445,7 @@ fn check_reports(reports: &[u32]) -> Result<(), Altered> {
 }
 
 /// A node of a tree.
-#[derive(Clone, Copy, PartialEq, Eq)]
+#[derive(Clone, Copy)]
 pub struct NodeView<'cst> {
     cst: &'cst ConcreteSyntaxTree,
     /// A node that is there.

@@ -1,7 +1,7 @@
 //! The reader of Plank scripts, whose answers are proved, for programs in Rust.
 //!
 //! [`parse`] reads a text and gives its tree with all tokens, values and reports, or a [`Refusal`].
-//! The names are those of the Plank parser in Rust: [`Lexed`](lexer::Lexed),
+//! The names are those of the Plank parser in Rust: [`Lexed`],
 //! [`NodeView`](cst::NodeView), [`Expr`](ast::Expr) and so on. What a tree says is asked of the
 //! library's views; [`raw`] has these, and lexing and reading, on plain slices of words.
 //!
