@@ -35,7 +35,9 @@ fn main() {
 fn row(text: &str) -> String {
     let mut slices = Slices::for_text(text.as_bytes());
     let lexed = Lexed::lex(text);
-    let read = Timed::new(|| slices.read(text.as_bytes()));
+    let read = Timed::new(|| {
+        black_box(slices.read(text.as_bytes()));
+    });
     let whole = Timed::new(|| reference(text));
     let parsed = Timed::new(|| parse_lexed(text, &lexed));
     let mut times = [Vec::new(), Vec::new(), Vec::new()];
