@@ -1,4 +1,5 @@
--- The readers' programs, gone through: tokens, names, literals.
+-- The readers' programs, gone through: tokens, names, blocks, expressions that are to be there. What a law shows is in its name: `-calm`,
+-- that the program makes no node; `-fresh`, that it answers one that it made, `-maybe`, such a one or none; `-ok`, what a turn or a part keeps.
 use mathlib.Core.Option.{Option, none, some}
 use mathlib.Core.List.{List}
 use Prim.Native.Nat.{ℕ, _≤_, _<_}

@@ -1,4 +1,4 @@
--- What views give of the words that reading makes of a text free of reports. What that says; `Proved` proves it.
+-- What views give of the words that reading makes, of a text free of reports and of any. What that says; `Proved` and `Unrefused` prove it.
 use mathlib.Core.Path.{_≡_}
 use mathlib.Core.Option as Option
 use mathlib.Core.List.{List, [], _∷_}
