@@ -1,31 +1,7 @@
-//! Compares the library with the reference, text by text.
+//! The program: `compare -- MODE`.
 
-mod answer;
-mod chart;
-mod check;
-mod fault;
-mod library;
-mod options;
-mod read;
-mod record;
-mod run;
-mod shrink;
-mod views;
-
-use options::Command;
 use std::{env, process::ExitCode};
 
 fn main() -> ExitCode {
-    match Command::read(env::args().skip(1)) {
-        Ok(Command::Lex(options)) => run::lex(&options),
-        Ok(Command::Read(options)) => read::run(&options),
-        Ok(Command::Views(options)) => views::run(&options),
-        Ok(Command::Chart(options)) => chart::run(&options),
-        Ok(Command::Record { file }) => record::write(&file),
-        Ok(Command::RecordParse { file }) => read::record(&file),
-        Err(message) => {
-            eprintln!("{message}\n{}", options::USAGE);
-            ExitCode::from(2)
-        }
-    }
+    compare::command(env::args().skip(1))
 }

@@ -13,4 +13,4 @@ mod tally;
 pub use answer::{Answer, COUNTS, Lent};
 pub use fault::{FAULTS, Fault};
 pub use record::{texts as recorded_texts, write as record};
-pub use run::run;
+pub use run::{difference, run};

@@ -11,7 +11,7 @@ use crate::{
     run::{Run, in_a_thread},
 };
 use generate::{ParseTexts, Texts, long_texts, nests, short_rows, texts_around_the_limit};
-use std::process::ExitCode;
+use std::{fmt, process::ExitCode};
 
 pub fn run(options: &ReadOptions) -> ExitCode {
     in_a_thread(|| run_all(options))
@@ -25,7 +25,7 @@ fn run_all(options: &ReadOptions) -> ExitCode {
         println!("planted fault: {fault:?}");
     }
     let mut all = |sort: &str, texts: &mut dyn Iterator<Item = Vec<u8>>| {
-        run.all(sort, texts, |text| difference(text, fault, &mut tally).is_some());
+        run.all(sort, texts, |text| difference_in(text, fault, &mut tally).is_some());
     };
     let generated = ParseTexts::new(options.seed).take(options.texts);
     all("generated", &mut generated.map(String::into_bytes));
@@ -35,11 +35,16 @@ fn run_all(options: &ReadOptions) -> ExitCode {
     all("as long as may be", &mut long_texts().map(String::into_bytes).chain(limit_texts));
     all("generated, of any bytes", &mut Texts::new(options.seed).take(options.texts / 2));
     print!("{tally}");
-    run.show_first(|text| difference(text, fault, &mut Tally::default()));
+    run.show_first(|text| difference_in(text, fault, &mut Tally::default()));
     run.end()
 }
 
-fn difference(text: &[u8], fault: Option<Fault>, tally: &mut Tally) -> Option<Difference> {
+/// What differs in the reading of one text.
+pub fn difference(text: &[u8]) -> Option<impl fmt::Display> {
+    difference_in(text, None, &mut Tally::default())
+}
+
+fn difference_in(text: &[u8], fault: Option<Fault>, tally: &mut Tally) -> Option<Difference> {
     match str::from_utf8(text) {
         Ok(readable) if text.len() <= MOST_BYTES => first_difference(readable, fault, tally),
         _ => first_difference_unreadable(text, tally),
