@@ -1,0 +1,45 @@
+-- What the parser's functions are lent as the text: the text itself, or, where it has more bytes than any text, a copy of the text with a
+-- table of names behind it.
+use mathlib.Core.Path.{_≡_, refl}
+use mathlib.Core.Bool.{Bool, cond, _&&_, _||_}
+use mathlib.Core.List.{List}
+use Prim.Native.Nat.{ℕ, _+_, _*_, _≤_}
+use borrow.Author.Tests.{le-ltb}
+use lib.Dec.{eqb, ltb}
+use lib.ListN.{length, getD}
+use Rattle.words.specs.Token
+use Rattle.words.specs.Words.{tokenKind}
+use Rattle.literals.specs.Spelling.{wordAt, spelling, firstAlike}
+
+-- No text has more bytes (01, Refusals), so the table begins there.
+abbrev pub tableStart : ℕ
+tableStart = 65536
+
+-- Tokens from this one on are not in the table.
+abbrev pub tableEntries : ℕ
+tableEntries = 65536
+
+-- What the table says of token `i`: two bytes, the low one first.
+abbrev pub entry : List ℕ → ℕ → ℕ
+entry source i = getD source (tableStart + 2 * i) 0 + 256 * getD source (tableStart + 2 * i + 1) 0
+
+abbrev pub isName : ℕ → Bool
+isName kind = eqb kind Token.Identifier || eqb kind Token.BuiltinName
+
+-- Whether there is a table, and token `i` is a name of this kind that it tells of.
+unfoldable pub isTold : List ℕ → List ℕ → ℕ → ℕ → Bool
+isTold source tokens kind i = ltb tableStart (length source) && (ltb i tableEntries && (isName kind && eqb (tokenKind (wordAt tokens i)) kind))
+
+-- The first token of a kind that is spelled as token `i`: from the table, or found by looking at all tokens.
+unfoldable pub firstOf : List ℕ → List ℕ → ℕ → ℕ → ℕ
+firstOf source tokens kind i = cond (isTold source tokens kind i) (entry source i) (firstAlike source tokens kind i)
+
+-- A source stands for a text: tokens are spelled alike in both, and its table is right.
+pub record Annotates (source text tokens : List ℕ) : Type 0 where
+  pub spells : (i : ℕ) → spelling source tokens i ≡ spelling text tokens i
+  pub names : (kind i : ℕ) → firstOf source tokens kind i ≡ firstAlike text tokens kind i
+
+-- A text stands for itself.
+pub itself : (text tokens : List ℕ) → length text ≤ tableStart → Annotates text text tokens
+unfolding firstOf isTold
+itself text tokens h = record { spells = λ i. refl; names = λ kind i. rw (le-ltb tableStart (length text) h) }
