@@ -36,7 +36,7 @@ allocated-cut start kind payload s m = go (hasRoom s (m .nodes)) refl
 module _ {text tokens : List ℕ} {d : ℕ} {r r′ : Reading} {m m′ : Memory} where
   -- Programs that come to the same are done by the same functions.
   alike : {A : Type 0} {p q : Prog A} {a : A} → run text tokens d p (r .state) m ≡ run text tokens d q (r .state) m → Does text tokens d p r m a r′ m′ → Does text tokens d q r m a r′ m′
-  alike {A = A} e g = record { is = g .is ∙ ap (λ (o : Out A). cond (eqb (r .refusal) 0) o (refused (r .refusal) (r .place))) e }
+  alike {A = A} e g = record { is = λ w. g .is w ∙ ap (λ (o : Out A). cond (eqb (r .refusal) 0) o (refused (r .refusal) (r .place))) e }
 
   pub open-cut : (start kind payload : ℕ) {n : ℕ} {u : Unfinished} → n ≡ cut payload → Does text tokens d (allocNodeFrom start kind n) r m u r′ m′ → Does text tokens d (allocNodeFrom start kind payload) r m u r′ m′
   unfolding allocNodeFrom eval

@@ -6,20 +6,20 @@ use Prim.Native.Nat.{ℕ, pred}
 use Rattle.words.specs.Token
 use Rattle.words.specs.Node
 use Rattle.words.specs.Report
-use Rattle.literals.specs.Spelling.{firstAlike}
 use Rattle.definition.specs.Prog.{Prog, Act, _>>=_, _>>_, if_then_else_, when, Memory, eval, pass, here, intern, marked, emitAndMark}
 use Rattle.definition.specs.Tokens.{ifCheck_then_else_, emitUnexpected}
 use Rattle.definition.specs.Nodes.{allocLastTokenAsNode, errorNode}
 use Rattle.reading.specs.declared.Reading.{Reading}
+use Rattle.reading.specs.Source.{firstOf}
 use Rattle.reading.specs.Does.{Does}
 
 -- The number that the definition gives the token that was just passed.
 abbrev pub internedAt : List ℕ → List ℕ → ℕ → Reading → ℕ
-internedAt text tokens kind r = firstAlike text tokens kind (pred (r .state .cursor .at))
+internedAt text tokens kind r = firstOf text tokens kind (pred (r .state .cursor .at))
 
 pub intern-is : {text tokens : List ℕ} {d kind : ℕ} {r : Reading} {m : Memory} → Does text tokens d (intern kind) r m (internedAt text tokens kind r) r m
 unfolding eval
-intern-is = record { is = refl }
+intern-is {kind = kind} {r = r} = record { is = λ w. rw (w kind (pred (r .state .cursor .at))) }
 
 -- What `expect_ident` does with a builtin's name, and where there is no name.
 abbrev pub tellBuiltin : Act

@@ -59,7 +59,7 @@ module _ (n word : ℕ) (s : State) (ns : List ℕ) where
 
 module _ {text tokens : List ℕ} {d : ℕ} {r : Reading} where
   pub acts : {A : Type 0} {p : Prog A} {a : A} {m m′ : Memory} → run text tokens d p (r .state) m ≡ done a (r .state) m′ → Does text tokens d p r m a r m′
-  acts e = record { is = ap (λ o. cond (eqb (r .refusal) 0) o (refused (r .refusal) (r .place))) (sym e) }
+  acts e = record { is = λ w. ap (λ o. cond (eqb (r .refusal) 0) o (refused (r .refusal) (r .place))) (sym e) }
 
 module _ {text tokens : List ℕ} {d : ℕ} {r : Reading} (ns vs rs ns′ : List ℕ) where
   writes : {p : Act} (n word w : ℕ) → run text tokens d p (r .state) (memory ns vs rs) ≡ done tt (r .state) (stored n word w (r .state) (memory ns vs rs))

@@ -16,7 +16,8 @@ use Rattle.definition.specs.declared.State.{State}
 use Rattle.definition.specs.Prog.{Prog, Memory, memory, Out, done, refused, bind, withValues, reported, kindAt, isMarked, passed, skipped, peek, pass, eval}
 use Rattle.definition.specs.Strings.{emitEvents}
 use Rattle.reading.specs.declared.Reading.{Reading}
-use Rattle.reading.specs.Does.{Does, run, from}
+use Rattle.reading.specs.Source.{Right}
+use Rattle.reading.specs.Does.{Does, view, run, from}
 use Rattle.values.specs.Decodes.{unrefused}
 
 -- What a program comes to, with other values, and with the next one at a place.
@@ -104,35 +105,35 @@ module _ (text tokens : List ℕ) where
 
 -- The same of functions.
 module _ {A : Type 0} {text tokens : List ℕ} {d : ℕ} {p : Prog A} {r r′ : Reading} {ns vs rs ns′ vs′ rs′ : List ℕ} {a : A} where
-  pub does-same : Alone (run text tokens d p) → Does text tokens d p r (memory ns vs rs) a r′ (memory ns′ vs′ rs′) → r′ .refusal ≡ 0
+  pub does-same : Alone (run text tokens d p) → Does text tokens d p r (memory ns vs rs) a r′ (memory ns′ vs′ rs′) → Right text tokens → r′ .refusal ≡ 0
       → (vs′ ≡ vs) × (r′ .state .values ≡ r .state .values)
-  does-same al e h =
-      let g : done a (r′ .state) (memory ns′ vs′ rs′) ≡ run text tokens d p (r .state) (memory ns vs rs) = unrefused e h .1 in
+  does-same al e w h =
+      let g : done a (r′ .state) (memory ns′ vs′ rs′) ≡ run text tokens d p (r .state) (memory ns vs rs) = unrefused e w h .1 in
       let o = done a (r′ .state) (memory ns′ vs′ rs′) in
       let k : o ≡ over (r .state .values) vs o = g ∙ (al (r .state) ns vs vs rs ∙ ap (over (r .state .values) vs) (sym g)) in
       (ap (λ (x : Out A). memoryOf (memory [] [] []) x .values) k, ap (λ (x : Out A). stateOf (r .state) x .values) k)
 
   pub does-over : Alone (run text tokens d p) → Does text tokens d p r (memory ns vs rs) a r′ (memory ns′ vs′ rs′) → (lent : List ℕ)
       → Does text tokens d p r (memory ns lent rs) a r′ (memory ns′ lent rs′)
-  does-over al e lent = record { is = go (eqb (r .refusal) 0) (eqb (r′ .refusal) 0) refl refl }
+  does-over al e lent = record { is = λ w. go (e .is w) (eqb (r .refusal) 0) (eqb (r′ .refusal) 0) refl refl }
     where
       at : ℕ
       at = r .state .values
 
-      go : (t u : Bool) → eqb (r .refusal) 0 ≡ t → eqb (r′ .refusal) 0 ≡ u
+      go : view a r′ (memory ns′ vs′ rs′) ≡ from r (memory ns vs rs) (run text tokens d p) → (t u : Bool) → eqb (r .refusal) 0 ≡ t → eqb (r′ .refusal) 0 ≡ u
           → from r′ (memory ns′ lent rs′) (λ s m. done a s m) ≡ from r (memory ns lent rs) (run text tokens d p)
-      go true true et eu =
-          let f : done a (r′ .state) (memory ns′ vs′ rs′) ≡ run text tokens d p (r .state) (memory ns vs rs) = rw (et, eu) at (e .is) in
+      go is true true et eu =
+          let f : done a (r′ .state) (memory ns′ vs′ rs′) ≡ run text tokens d p (r .state) (memory ns vs rs) = rw (et, eu) at is in
           let o = done a (r′ .state) (memory ns′ vs′ rs′) in
           let k : o ≡ over at vs o = f ∙ (al (r .state) ns vs vs rs ∙ ap (over at vs) (sym f)) in
           let z : r′ .state ≡ withValues at (r′ .state) = ap (stateOf (r .state)) k in
           rw (et, eu, al (r .state) ns vs lent rs, ← f) (ap (λ (x : State). done a x (memory ns′ lent rs′)) z)
-      go true false et eu =
-          let f : refused (r′ .refusal) (r′ .place) ≡ run text tokens d p (r .state) (memory ns vs rs) = rw (et, eu) at (e .is) in
+      go is true false et eu =
+          let f : refused (r′ .refusal) (r′ .place) ≡ run text tokens d p (r .state) (memory ns vs rs) = rw (et, eu) at is in
           rw (et, eu, al (r .state) ns vs lent rs, ← f)
-      go false true et eu =
-          let f : _≡_ {A = Out A} (done a (r′ .state) (memory ns′ vs′ rs′)) (refused (r .refusal) (r .place)) = rw (et, eu) at (e .is) in
+      go is false true et eu =
+          let f : _≡_ {A = Out A} (done a (r′ .state) (memory ns′ vs′ rs′)) (refused (r .refusal) (r .place)) = rw (et, eu) at is in
           absurd (let z : _≡_ {A = ℕ} 0 1 = cc in omega arith)
-      go false false et eu =
-          let f : _≡_ {A = Out A} (refused (r′ .refusal) (r′ .place)) (refused (r .refusal) (r .place)) = rw (et, eu) at (e .is) in
+      go is false false et eu =
+          let f : _≡_ {A = Out A} (refused (r′ .refusal) (r′ .place)) (refused (r .refusal) (r .place)) = rw (et, eu) at is in
           rw (et, eu) f

@@ -16,7 +16,8 @@ use Rattle.definition.specs.Strings.{stringTurn, tryParseStringLiteral}
 use Rattle.reading.specs.declared.Maybe.{Maybe}
 use Rattle.reading.specs.declared.Maybe.the-variants.{Some, None}
 use Rattle.reading.specs.declared.Reading.{Reading}
-use Rattle.reading.specs.Does.{Does, Turns, turnsOf, first-turn, next-turn, last-turn, refused-turn, no-turn-left, then, gives}
+use Rattle.reading.specs.Source.{Right}
+use Rattle.reading.specs.Does.{Does, Turns, turnsOf, first-turn, next-turn, last-turn, refused-turn, no-turn-left, then, gives, granted}
 use Rattle.cst.specs.Cst.{maybe}
 use Rattle.cst.specs.Laws.{position-is}
 use Rattle.values.specs.declared.Count.{Count}
@@ -30,20 +31,20 @@ pub record Gathering (text tokens : List ℕ) (d : ℕ) (s : Reading) (m : Memor
   pub bytes : List ℕ
   pub nothing : past ≡ None → bytes ≡ []
   pub turns : Turns text tokens d stringTurn (buf [] none) s m k (buf bytes (maybe past)) s′ (memory (m′ .nodes) (m .values) (m′ .reports))
-  pub holds : s′ .refusal ≡ 0 → Held (m .values) (s .state .values) bytes c′ (m′ .values)
-  pub stays : s′ .refusal ≡ 0 → s′ .state .values ≡ s .state .values
+  pub holds : Right text tokens → s′ .refusal ≡ 0 → Held (m .values) (s .state .values) bytes c′ (m′ .values)
+  pub stays : Right text tokens → s′ .refusal ≡ 0 → s′ .state .values ≡ s .state .values
 
 -- All of them.
 pub record Gathers (text tokens : List ℕ) (d : ℕ) (s : Reading) (m : Memory) (past : Maybe) (s′ : Reading) (c′ : Count) (m′ : Memory) : Type 0 where
   pub bytes : List ℕ
   pub nothing : past ≡ None → bytes ≡ []
   pub does : Does text tokens d (loop (buf [] none) stringTurn) s m (buf bytes (maybe past)) s′ (memory (m′ .nodes) (m .values) (m′ .reports))
-  pub holds : s′ .refusal ≡ 0 → Held (m .values) (s .state .values) bytes c′ (m′ .values)
-  pub stays : s′ .refusal ≡ 0 → s′ .state .values ≡ s .state .values
+  pub holds : Right text tokens → s′ .refusal ≡ 0 → Held (m .values) (s .state .values) bytes c′ (m′ .values)
+  pub stays : Right text tokens → s′ .refusal ≡ 0 → s′ .state .values ≡ s .state .values
 
 module _ (text tokens : List ℕ) (d : ℕ) (s : Reading) (ns vs rs : List ℕ) where
   pub gather-first : Gathering text tokens d s (memory ns vs rs) (turnsOf tokens) None s (Words 0) (memory ns vs rs)
-  gather-first = record { bytes = []; nothing = λ e. refl; turns = first-turn; holds = λ h. held-first vs (s .state .values); stays = λ h. refl }
+  gather-first = record { bytes = []; nothing = λ e. refl; turns = first-turn; holds = λ w h. held-first vs (s .state .values); stays = λ w h. refl }
 
   module _ (k : ℕ) (past : Maybe) (s₁ : Reading) (c₁ : Count) (ns₁ vs₁ rs₁ : List ℕ) (g : Gathering text tokens d s (memory ns vs rs) k past s₁ c₁ (memory ns₁ vs₁ rs₁)) where
     pub gather-over : k ≤ 0 → Gathers text tokens d s (memory ns vs rs) past s₁ c₁ (memory ns₁ vs₁ rs₁)
@@ -54,11 +55,11 @@ module _ (text tokens : List ℕ) (d : ℕ) (s : Reading) (ns vs rs : List ℕ) 
 
     module _ (h : 0 < k) (next : Maybe) (s₂ : Reading) (c₂ : Count) (ns₂ vs₂ rs₂ : List ℕ)
         (t : Turned text tokens d (s .state .values) s₁ c₁ (memory ns₁ vs₁ rs₁) next s₂ c₂ (memory ns₂ vs₂ rs₂)) where
-      before : s₂ .refusal ≡ 0 → s₁ .refusal ≡ 0
-      before e = unrefused (t .does vs (g .bytes) (maybe past)) e .0
+      before : Right text tokens → s₂ .refusal ≡ 0 → s₁ .refusal ≡ 0
+      before w e = unrefused (t .does vs (g .bytes) (maybe past)) w e .0
 
-      held : s₂ .refusal ≡ 0 → Held vs (s .state .values) (g .bytes ++ t .added) c₂ vs₂
-      held e = t .holds vs (g .bytes) e (g .holds (before e))
+      held : Right text tokens → s₂ .refusal ≡ 0 → Held vs (s .state .values) (g .bytes ++ t .added) c₂ vs₂
+      held w e = t .holds w vs (g .bytes) e (g .holds w (before w e))
 
       pub gather-next : (n : ℕ) → next ≡ Some n → Gathering text tokens d s (memory ns vs rs) (k - 1) (Some n) s₂ c₂ (memory ns₂ vs₂ rs₂)
       gather-next n e =
@@ -67,7 +68,7 @@ module _ (text tokens : List ℕ) (d : ℕ) (s : Reading) (ns vs rs : List ℕ) 
             nothing = λ z. absurd (some-none n z);
             turns = next-turn (g .turns) h (rw e at (t .does vs (g .bytes) (maybe past)));
             holds = held;
-            stays = λ z. t .stays z ∙ g .stays (before z);
+            stays = λ w z. t .stays w z ∙ g .stays w (before w z);
           }
 
       pub gather-last : next ≡ None → Gathers text tokens d s (memory ns vs rs) past s₂ c₂ (memory ns₂ vs₂ rs₂)
@@ -76,8 +77,8 @@ module _ (text tokens : List ℕ) (d : ℕ) (s : Reading) (ns vs rs : List ℕ) 
             bytes = g .bytes;
             nothing = g .nothing;
             does = last-turn (g .turns) h (rw e at (t .does vs (g .bytes) (maybe past)));
-            holds = λ z. rw (t .nothing e, append-nil) at (held z);
-            stays = λ z. t .stays z ∙ g .stays (before z);
+            holds = λ w z. rw (t .nothing e, append-nil) at (held w z);
+            stays = λ w z. t .stays w z ∙ g .stays w (before w z);
           }
 
 -- ---- the node of what was gathered
@@ -95,7 +96,7 @@ pub record StringMade (text tokens : List ℕ) (d start end : ℕ) (s : Reading)
       → Does text tokens d (stringNode start end bs) s (memory (m .nodes) lent (m .reports)) it s′ m′
 
 pub made-refused : (text tokens : List ℕ) (d start end : ℕ) (s : Reading) (c : Count) (m : Memory) (it : Option ℕ) → (s .refusal ≡ 0 → ⊥) → StringMade text tokens d start end s c m it s m
-made-refused text tokens d start end s c m it h = record { does = λ lent bs k. record { is = rw (ne-eqb (s .refusal) 0 h) } }
+made-refused text tokens d start end s c m it h = record { does = λ lent bs k. record { is = λ w. rw (ne-eqb (s .refusal) 0 h) } }
 
 -- Where no byte is held, the values are as they were lent.
 held-none : (lent : List ℕ) (at : ℕ) (c : Count) (vs : List ℕ) → Held lent at [] c vs → vs ≡ lent
@@ -110,18 +111,20 @@ values-then {text = text} {tokens = tokens} {d = d} {p = p} {r = r} {m = m} {a =
   where
     go : (t : Bool) → eqb (r′ .refusal) 0 ≡ t → Does text tokens d p r m a r′ (memory ns vs rs)
     go true h = rw (f (eqb-true (r′ .refusal) 0 h)) e
-    go false h = record { is = (rw h) ∙ (rw h at (e .is)) }
+    go false h = record { is = λ w. (rw h) ∙ (rw h at (e .is w)) }
 
 module _ (text tokens : List ℕ) (d : ℕ) (s : Reading) (m : Memory) (kind : ℕ) (s₁ : Reading) (ns₁ vs₁ rs₁ : List ℕ) (p : Does text tokens d peek s m kind s₁ (memory ns₁ vs₁ rs₁))
     (past : Maybe) (s₂ : Reading) (c₂ : Count) (ns₂ vs₂ rs₂ : List ℕ) (g : Gathers text tokens d s₁ (memory ns₁ vs₁ rs₁) past s₂ c₂ (memory ns₂ vs₂ rs₂)) where
   pub literal-none : past ≡ None → Does text tokens d tryParseStringLiteral s m none s₂ (memory ns₂ vs₂ rs₂)
   unfolding tryParseStringLiteral skipTriviaStart
   literal-none e =
-      let lent : s₂ .refusal ≡ 0 → vs₂ ≡ vs₁ = λ h. held-none vs₁ (s₁ .state .values) c₂ vs₂ (rw (g .nothing e) at (g .holds h)) in
-      then (then p position-is) (then (values-then s₂ ns₂ vs₁ vs₂ rs₂ lent (rw e at (g .does))) gives)
+      granted
+      (λ w.
+      let lent : s₂ .refusal ≡ 0 → vs₂ ≡ vs₁ = λ h. held-none vs₁ (s₁ .state .values) c₂ vs₂ (rw (g .nothing e) at (g .holds w h)) in
+      then (then p position-is) (then (values-then s₂ ns₂ vs₁ vs₂ rs₂ lent (rw e at (g .does))) gives))
 
   pub literal-some : (end : ℕ) → past ≡ Some end → (it : Option ℕ) (s₃ : Reading) (m₃ : Memory) → StringMade text tokens d (s₁ .state .cursor .at) end s₂ c₂ (memory ns₂ vs₂ rs₂) it s₃ m₃
       → Does text tokens d tryParseStringLiteral s m it s₃ m₃
   unfolding tryParseStringLiteral skipTriviaStart
   literal-some end e it s₃ m₃ made =
-      then (then p position-is) (then (rw e at (g .does)) (made .does vs₁ (g .bytes) (λ h. rw (g .stays h) (g .holds h))))
+      granted (λ w. then (then p position-is) (then (rw e at (g .does)) (made .does vs₁ (g .bytes) (λ h. rw (g .stays w h) (g .holds w h)))))

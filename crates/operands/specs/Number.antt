@@ -29,7 +29,7 @@ numberOf radix prefix = do
 
 pub spelling-is : {text tokens : List ℕ} {d : ℕ} {r : Reading} {m : Memory} → Does text tokens d spelling r m (Source.spelling text tokens (r .state .cursor .at)) r m
 unfolding eval
-spelling-is = record { is = refl }
+spelling-is = record { is = λ w. refl }
 
 module _ (token : ℕ) where
   pub radix-decimal : token ≡ Token.DecimalLiteral → radixOf token ≡ some (record { radix = 10; prefix = 0 })

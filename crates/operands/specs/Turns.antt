@@ -15,6 +15,7 @@ use Rattle.definition.specs.Strings.{StringBuf, decodeToken, stringTurn}
 use Rattle.reading.specs.declared.Maybe.{Maybe}
 use Rattle.reading.specs.declared.Maybe.the-variants.{Some, None}
 use Rattle.reading.specs.declared.Reading.{Reading}
+use Rattle.reading.specs.Source.{Right}
 use Rattle.reading.specs.Does.{Does, then, gives, when-true, when-false}
 use Rattle.cst.specs.Laws.{position-is}
 use Rattle.values.specs.declared.Count.{Count}
@@ -41,12 +42,12 @@ pub record Turned (text tokens : List ℕ) (d at : ℕ) (s : Reading) (c : Count
   pub nothing : past ≡ None → added ≡ []
   pub does : (lent bs : List ℕ) (e : Option ℕ)
       → Does text tokens d (stringTurn (buf bs e)) s (memory (m .nodes) lent (m .reports)) (turnOf bs e added past) s′ (memory (m′ .nodes) lent (m′ .reports))
-  pub holds : (lent bs : List ℕ) → s′ .refusal ≡ 0 → Held lent at bs c (m .values) → Held lent at (bs ++ added) c′ (m′ .values)
-  pub stays : s′ .refusal ≡ 0 → s′ .state .values ≡ s .state .values
+  pub holds : Right text tokens → (lent bs : List ℕ) → s′ .refusal ≡ 0 → Held lent at bs c (m .values) → Held lent at (bs ++ added) c′ (m′ .values)
+  pub stays : Right text tokens → s′ .refusal ≡ 0 → s′ .state .values ≡ s .state .values
 
 here-is : {text tokens : List ℕ} {d : ℕ} {r : Reading} {m : Memory} → Does text tokens d here r m (Source.tokenSpan tokens (r .state .cursor .at)) r m
 unfolding eval
-here-is = record { is = refl }
+here-is = record { is = λ w. refl }
 
 pub some-none : (n : ℕ) → _≡_ {A = Maybe} (Some n) None → ⊥
 some-none n e = let z : _≡_ {A = ℕ} 0 1 = cc in omega arith
@@ -81,8 +82,8 @@ module _ (text tokens : List ℕ) (d at : ℕ) (s : Reading) (c : Count) (ns vs 
             λ lent bs e.
             looked lent bs e (stop (buf bs e)) s₁ (memory ns₁ lent rs₁)
             (when-false (ne-eqb kind _ h₁) (when-false (ne-eqb kind _ h₂) (when-false (rw (ne-eqb kind Token.MultilineStringError h₃, ne-eqb kind Token.UnclosedStringError h₄)) gives)));
-        holds = λ lent bs h k. rw (append-nil, does-same (peek-alone text tokens d) p h .0) k;
-        stays = λ h. does-same (peek-alone text tokens d) p h .1;
+        holds = λ w lent bs h k. rw (append-nil, does-same (peek-alone text tokens d) p w h .0) k;
+        stays = λ w h. does-same (peek-alone text tokens d) p w h .1;
       }
 
   -- One comes, is decoded, and passed.
@@ -99,18 +100,18 @@ module _ (text tokens : List ℕ) (d at : ℕ) (s : Reading) (c : Count) (ns vs 
           added = bytesOf es;
           nothing = λ e. absurd (some-none (s₃ .state .cursor .at) (sym (r .end) ∙ e));
           does = λ lent bs e. looked lent bs e (turnOf bs e (bytesOf es) past) s₃ (memory ns₃ lent rs₃) (f (buf bs e) lent (turnOf bs e (bytesOf es) past) (memory ns₃ lent rs₃) (decoded lent bs e));
-          holds = λ lent bs h k. rw (r .count, passing h .0) (q .holds lent bs (decoding h) (rw (peeking h .0) k));
-          stays = λ h. passing h .1 ∙ (does-same (events-alone text tokens d es) (q .does []) (decoding h) .1 ∙ peeking h .1);
+          holds = λ w lent bs h k. rw (r .count, passing w h .0) (q .holds w lent bs (decoding w h) (rw (peeking w h .0) k));
+          stays = λ w h. passing w h .1 ∙ (does-same (events-alone text tokens d es) (q .does []) w (decoding w h) .1 ∙ peeking w h .1);
         }
       where
-        decoding : s₃ .refusal ≡ 0 → s₂ .refusal ≡ 0
-        decoding h = unrefused (r .does) h .0
+        decoding : Right text tokens → s₃ .refusal ≡ 0 → s₂ .refusal ≡ 0
+        decoding w h = unrefused (r .does) w h .0
 
-        passing : s₃ .refusal ≡ 0 → (vs₃ ≡ vs₂) × (s₃ .state .values ≡ s₂ .state .values)
-        passing h = does-same (pass-alone text tokens d) (r .does) h
+        passing : Right text tokens → s₃ .refusal ≡ 0 → (vs₃ ≡ vs₂) × (s₃ .state .values ≡ s₂ .state .values)
+        passing w h = does-same (pass-alone text tokens d) (r .does) w h
 
-        peeking : s₃ .refusal ≡ 0 → (vs₁ ≡ vs) × (s₁ .state .values ≡ s .state .values)
-        peeking h = does-same (peek-alone text tokens d) p (unrefused (q .does []) (decoding h) .0)
+        peeking : Right text tokens → s₃ .refusal ≡ 0 → (vs₁ ≡ vs) × (s₁ .state .values ≡ s .state .values)
+        peeking w h = does-same (peek-alone text tokens d) p w (unrefused (q .does []) w (decoding w h) .0)
 
   module _ (s₂ : Reading) (c₂ : Count) (ns₂ vs₂ rs₂ : List ℕ) (past : Maybe) (s₃ : Reading) (c₃ : Count) (ns₃ vs₃ rs₃ : List ℕ)
       (r : Passed text tokens d s₂ c₂ (memory ns₂ vs₂ rs₂) past s₃ c₃ (memory ns₃ vs₃ rs₃)) where

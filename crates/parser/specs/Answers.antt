@@ -42,8 +42,8 @@ module _ {text tokens : List ℕ} (n v w : ℕ) {file : ℕ} {r : Reading} {m : 
 
   pub read : r .refusal ≡ 0 → given (Counts (r .state .nodes) (r .state .values) (r .state .reports)) m ≡ parsed text tokens n v w
   unfolding parsedTo
-  read h = came-to (done file (r .state) m) (rw (eq-eqb (r .refusal) 0 h) at (e .is))
+  read h = came-to (done file (r .state) m) (rw (eq-eqb (r .refusal) 0 h) at (e .is w))
 
   pub refuses : (r .refusal ≡ 0 → ⊥) → given (Refused (r .refusal) (r .place)) (zeros n v w) ≡ parsed text tokens n v w
   unfolding parsedTo
-  refuses h = came-to (refused (r .refusal) (r .place)) (rw (ne-eqb (r .refusal) 0 h) at (e .is))
+  refuses h = came-to (refused (r .refusal) (r .place)) (rw (ne-eqb (r .refusal) 0 h) at (e .is w))

@@ -40,9 +40,9 @@ module _ {text tokens : List ℕ} {r r′ : Reading} {m m′ : Memory} where
   pub expr-level : {d : ℕ} {mode : Mode} {min : ℕ} {a : Option ℕ} → (d ≡ 0 → ⊥) → Does text tokens (d - 1) (tryParseExprMinBp mode min) r m a r′ m′ → Does text tokens d (enterExpr mode min) r m a r′ m′
   unfolding eval tower
   expr-level {d = zero} h g = absurd (h refl)
-  expr-level {d = suc e} h g = record { is = rw sub-one at (g .is) }
+  expr-level {d = suc e} h g = record { is = λ w. rw sub-one at (g .is w) }
 
   pub block-level : {d start kind a : ℕ} → (d ≡ 0 → ⊥) → Does text tokens (d - 1) (parseBlock start kind) r m a r′ m′ → Does text tokens d (enterBlock start kind) r m a r′ m′
   unfolding eval tower
   block-level {d = zero} h g = absurd (h refl)
-  block-level {d = suc e} h g = record { is = rw sub-one at (g .is) }
+  block-level {d = suc e} h g = record { is = λ w. rw sub-one at (g .is w) }

@@ -39,6 +39,15 @@ pub record Annotates (source text tokens : List ℕ) : Type 0 where
   pub spells : (i : ℕ) → spelling source tokens i ≡ spelling text tokens i
   pub names : (kind i : ℕ) → firstOf source tokens kind i ≡ firstAlike text tokens kind i
 
+-- The table of a source is right: it says what looking at all tokens finds.
+abbrev pub Right : List ℕ → List ℕ → Type 0
+Right source tokens = (kind i : ℕ) → firstOf source tokens kind i ≡ firstAlike source tokens kind i
+
+-- Where there is no table, none is wrong.
+pub plain-right : (text tokens : List ℕ) → length text ≤ tableStart → Right text tokens
+unfolding firstOf isTold
+plain-right text tokens h kind i = rw (le-ltb tableStart (length text) h)
+
 -- A text stands for itself.
 pub itself : (text tokens : List ℕ) → length text ≤ tableStart → Annotates text text tokens
 unfolding firstOf isTold

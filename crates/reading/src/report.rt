@@ -1,8 +1,8 @@
 // Reports: the emit functions.
 ghost use mathlib.Core.Path.{_≡_};
 ghost use Prim.Native.Nat.{_<_};
-ghost use Rattle.definition.specs.Prog.{emit, memory};
-ghost use Rattle.reading.specs.Does.{Does};
+ghost use Rattle.definition.specs.Prog.{memory};
+ghost use Rattle.reading.specs.Leaves.{Reports};
 ghost use Rattle.literals.specs.Spelling.{span};
 use crate::Reading;
 use definition::State;
@@ -23,7 +23,7 @@ pub fn emit(
     start: u32,
     end: u32,
 ) -> Reading
-    ensures { λ r. ⌜ Does (now (text .entry)) (now (tokens .entry)) d (emit kind detail (span start end)) s (memory (now (nodes .entry)) (now (values .entry)) (now (reports .entry))) tt r (memory (now (nodes .exit)) (now (values .exit)) (now (reports .exit))) ⌝ }
+    ensures { λ r. ⌜ Reports kind detail (span start end) s (memory (now (nodes .entry)) (now (values .entry)) (now (reports .entry))) r (memory (now (nodes .exit)) (now (values .exit)) (now (reports .exit))) ⌝ }
 {
     if s.refusal != 0 {
         return s;

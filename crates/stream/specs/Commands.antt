@@ -22,27 +22,27 @@ use Rattle.stream.specs.Skip.{kind-any}
 
 module _ (text tokens : List ℕ) (d : ℕ) (s r : Reading) (m m₁ : Memory) (e : view tt r m₁ ≡ from s m (skipTrivia text tokens)) where
   pub peek-is : (k : ℕ) → k ≡ kindAt [] tokens (r .state .cursor) → Does text tokens d peek s m k r m₁
-  peek-is k f = record { is = then-view tt k s r r m m₁ m₁ (skipTrivia text tokens) (run text tokens d peek) (λ _ t n. done (kindAt text tokens (t .cursor)) t n) e there (λ t n. unfold eval in refl) }
+  peek-is k f = record { is = λ w. then-view tt k s r r m m₁ m₁ (skipTrivia text tokens) (run text tokens d peek) (λ _ t n. done (kindAt text tokens (t .cursor)) t n) e there (λ t n. unfold eval in refl) }
     where
       there : view k r m₁ ≡ from r m₁ (λ t n. done (kindAt text tokens (t .cursor)) t n)
       there = ap (λ (x : ℕ). view x r m₁) (f ∙ kind-any text tokens (r .state .cursor))
 
   pub pass-is : (r₂ : Reading) (m₂ : Memory) → view tt r₂ m₂ ≡ from r m₁ (passed text tokens) → Does text tokens d pass s m tt r₂ m₂
-  pass-is r₂ m₂ f = record { is = then-view tt tt s r r₂ m m₁ m₂ (skipTrivia text tokens) (run text tokens d pass) (λ _ t n. passed text tokens t n) e f (λ t n. unfold eval in refl) }
+  pass-is r₂ m₂ f = record { is = λ w. then-view tt tt s r r₂ m m₁ m₂ (skipTrivia text tokens) (run text tokens d pass) (λ _ t n. passed text tokens t n) e f (λ t n. unfold eval in refl) }
 
 -- Commands that only look.
 module _ {text tokens : List ℕ} {d : ℕ} {r : Reading} {m : Memory} where
   pub marked-is : {b : Bool} → b ≡ isMarked (r .state) → Does text tokens d marked r m b r m
   unfolding eval
-  marked-is f = record { is = rw f }
+  marked-is f = record { is = λ w. rw f }
 
   pub position-is : {n : ℕ} → n ≡ r .state .cursor .at → Does text tokens d position r m n r m
   unfolding eval
-  position-is f = record { is = rw f }
+  position-is f = record { is = λ w. rw f }
 
   pub here-is : {x y : ℕ} → x ≡ tokenStart tokens (r .state .cursor .at) → y ≡ tokenEnd (wordAt tokens (r .state .cursor .at)) → Does text tokens d here r m (span x y) r m
   unfolding eval
-  here-is f g = record { is = rw (f, g) }
+  here-is f g = record { is = λ w. rw (f, g) }
 
 -- The mark is put at the cursor's token.
 abbrev pub markHere : Reading → Reading
@@ -51,7 +51,7 @@ markHere s = record { state = markedHere (s .state); refusal = s .refusal; place
 pub mark-emit : {text tokens : List ℕ} {d : ℕ} {s t r : Reading} {m m₁ : Memory} {kind detail : ℕ} {p : Span} → t ≡ markHere s
     → Does text tokens d (emit kind detail p) t m tt r m₁ → Does text tokens d (emitAndMark kind detail p) s m tt r m₁
 unfolding eval
-mark-emit e g = record { is = rw e at (g .is) }
+mark-emit e g = record { is = λ w. rw e at (g .is w) }
 
 -- A list searched from its i-th on.
 pub contains-next : (l : List ℕ) (i token : ℕ) (b : Bool) → i < length l → (token ≡ getD l i 0 → ⊥) → contains (drop i l) token ≡ b → contains (drop (i + 1) l) token ≡ b
@@ -85,4 +85,4 @@ turnIf false = stop tt
 pub before-is : {text tokens : List ℕ} {d : ℕ} {r : Reading} {m : Memory} {x y : ℕ} → x ≡ tokenStart tokens (pred (r .state .cursor .at)) → y ≡ tokenStart tokens (r .state .cursor .at)
     → Does text tokens d before r m (span x y) r m
 unfolding eval
-before-is f g = record { is = rw (f, g) }
+before-is f g = record { is = λ w. rw (f, g) }

@@ -24,7 +24,7 @@ twice (refused number place) q f g = refl
 module _ {text tokens : List ℕ} {d : ℕ} {r r′ : Reading} {m m′ : Memory} where
   -- What does a program does any other that comes to the same.
   pub alike : {A : Type 0} {p q : Prog A} {a : A} → run text tokens d p (r .state) m ≡ run text tokens d q (r .state) m → Does text tokens d p r m a r′ m′ → Does text tokens d q r m a r′ m′
-  alike {A = A} e g = record { is = g .is ∙ ap (λ (o : Out A). cond (eqb (r .refusal) 0) o (refused (r .refusal) (r .place))) e }
+  alike {A = A} e g = record { is = λ w. g .is w ∙ ap (λ (o : Out A). cond (eqb (r .refusal) 0) o (refused (r .refusal) (r .place))) e }
 
   pub regroup : {A B C : Type 0} {p : Prog A} {f : A → Prog B} {g : B → Prog C} {c : C} → Does text tokens d (Then (Then p f) g) r m c r′ m′ → Does text tokens d (Then p (λ a. Then (f a) g)) r m c r′ m′
   unfolding eval

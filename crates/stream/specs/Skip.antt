@@ -16,10 +16,11 @@ use Rattle.words.specs.Report
 use Rattle.literals.specs.Spelling.{tokenStart, tokenSpan, span, wordAt}
 use Rattle.definition.specs.declared.Cursor.{Cursor}
 use Rattle.definition.specs.declared.State.{State}
-use Rattle.definition.specs.Prog.{Memory, Out, done, refused, withCursor, advanced, kindAt, passed, reported, isMarked, emit, eval}
+use Rattle.definition.specs.Prog.{Memory, Out, done, refused, withCursor, advanced, kindAt, passed, reported, isMarked}
 use Rattle.definition.specs.Quiet.{word-inside}
 use Rattle.reading.specs.declared.Reading.{Reading}
-use Rattle.reading.specs.Does.{Does, view, from}
+use Rattle.reading.specs.Does.{view, from}
+use Rattle.reading.specs.Leaves.{Reports}
 
 abbrev pub moved : Reading → Cursor → Reading
 moved r c = record { state = withCursor c (r .state); refusal = r .refusal; place = r .place }
@@ -69,9 +70,8 @@ module _ (text tokens : List ℕ) (s : Reading) (m : Memory) (c : Cursor) (next 
   pub advance-marked : (e : ℕ) (b : Bool) → l ≡ Is e → b ≡ isMarked (s .state) → b ≡ true → view tt next m ≡ from s m (passed text tokens)
   advance-marked e b h g i = rw (en, ec) (ap (λ (o : Out (Unit {0})). cond (eqb (s .refusal) 0) o (refused (s .refusal) (s .place))) (sym (passed-marked text tokens (s .state) m e (known ∙ h) (sym g ∙ i))))
 
-  pub advance-told : (d e x y : ℕ) (b : Bool) (r : Reading) (m′ : Memory) → l ≡ Is e → b ≡ isMarked (s .state) → b ≡ false
+  pub advance-told : (e x y : ℕ) (b : Bool) (r : Reading) (m′ : Memory) → l ≡ Is e → b ≡ isMarked (s .state) → b ≡ false
       → x ≡ tokenStart tokens (s .state .cursor .at) → y ≡ tokenEnd (wordAt tokens (s .state .cursor .at))
-      → Does text tokens d (emit Report.LexerError e (span x y)) next m tt r m′ → view tt r m′ ≡ from s m (passed text tokens)
-  advance-told d e x y b r m′ h g i ex ey p =
-      let q : view tt r m′ ≡ from next m (λ u n. reported Report.LexerError e (span x y) u n) = unfold eval in (p .is) in
-      (rw (en, ec, ex, ey) at q) ∙ (ap (λ (o : Out (Unit {0})). cond (eqb (s .refusal) 0) o (refused (s .refusal) (s .place))) (sym (passed-told text tokens (s .state) m e (known ∙ h) (sym g ∙ i))))
+      → Reports Report.LexerError e (span x y) next m r m′ → view tt r m′ ≡ from s m (passed text tokens)
+  advance-told e x y b r m′ h g i ex ey p =
+      (rw (en, ec, ex, ey) at (p .is)) ∙ (ap (λ (o : Out (Unit {0})). cond (eqb (s .refusal) 0) o (refused (s .refusal) (s .place))) (sym (passed-told text tokens (s .state) m e (known ∙ h) (sym g ∙ i))))

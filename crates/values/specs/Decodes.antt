@@ -15,6 +15,7 @@ use Rattle.definition.specs.declared.State.{State}
 use Rattle.definition.specs.Prog.{Prog, emit, Memory, memory, Out, done, refused, bind, eval, reported}
 use Rattle.definition.specs.Strings.{emitEvents}
 use Rattle.reading.specs.declared.Reading.{Reading}
+use Rattle.reading.specs.Source.{Right}
 use Rattle.reading.specs.Does.{Does, run, view, from, gives, then}
 use Rattle.values.specs.declared.Count.{Count}
 use Rattle.values.specs.Fours.{Held, PushByte}
@@ -56,8 +57,8 @@ module _ (kind detail : ℕ) (p : Span) (s : State) (ns vs lent rs : List ℕ) w
 
 -- A reading that goes on was not refused before.
 pub unrefused : {A : Type 0} {text tokens : List ℕ} {d : ℕ} {p : Prog A} {r : Reading} {m : Memory} {a : A} {r′ : Reading} {m′ : Memory}
-    → Does text tokens d p r m a r′ m′ → r′ .refusal ≡ 0 → (r .refusal ≡ 0) × (done a (r′ .state) m′ ≡ run text tokens d p (r .state) m)
-unrefused {A = A} {text = text} {tokens = tokens} {d = d} {p = p} {r = r} {m = m} {a = a} {r′ = r′} {m′ = m′} e h = go (eqb (r .refusal) 0) refl (rw (eq-eqb (r′ .refusal) 0 h) at (e .is))
+    → Does text tokens d p r m a r′ m′ → Right text tokens → r′ .refusal ≡ 0 → (r .refusal ≡ 0) × (done a (r′ .state) m′ ≡ run text tokens d p (r .state) m)
+unrefused {A = A} {text = text} {tokens = tokens} {d = d} {p = p} {r = r} {m = m} {a = a} {r′ = r′} {m′ = m′} e w h = go (eqb (r .refusal) 0) refl (rw (eq-eqb (r′ .refusal) 0 h) at (e .is w))
   where
     go : (t : Bool) → eqb (r .refusal) 0 ≡ t → done a (r′ .state) m′ ≡ cond t (run text tokens d p (r .state) m) (refused (r .refusal) (r .place))
         → (r .refusal ≡ 0) × (done a (r′ .state) m′ ≡ run text tokens d p (r .state) m)
@@ -71,21 +72,21 @@ module _ (text tokens : List ℕ) (d : ℕ) (kind detail : ℕ) (p : Span) (s : 
   emit-over lent =
       record {
         is =
-            sym (over-cond lent (eqb (s′ .refusal) 0) (done tt (s′ .state) (memory ns′ vs′ rs′)) (refused (s′ .refusal) (s′ .place)))
-            ∙ (ap (over lent) (e .is)
+            λ w. sym (over-cond lent (eqb (s′ .refusal) 0) (done tt (s′ .state) (memory ns′ vs′ rs′)) (refused (s′ .refusal) (s′ .place)))
+            ∙ (ap (over lent) (e .is w)
             ∙ (over-cond lent (eqb (s .refusal) 0) (reported kind detail p (s .state) (memory ns vs rs)) (refused (s .refusal) (s .place))
             ∙ rw (reported-over kind detail p (s .state) ns vs lent rs)));
       }
 
-  emit-same : s′ .refusal ≡ 0 → vs′ ≡ vs
+  emit-same : Right text tokens → s′ .refusal ≡ 0 → vs′ ≡ vs
   unfolding eval
-  emit-same h = reported-same kind detail p (s .state) ns vs vs rs (s′ .state) (memory ns′ vs′ rs′) (unrefused e h .1)
+  emit-same w h = reported-same kind detail p (s .state) ns vs vs rs (s′ .state) (memory ns′ vs′ rs′) (unrefused e w h .1)
 
 -- ---- events, one after the other
 
 pub record Decodes (text tokens : List ℕ) (d : ℕ) (es : List Event) (at : ℕ) (s : Reading) (c : Count) (m : Memory) (s′ : Reading) (c′ : Count) (m′ : Memory) : Type 0 where
   pub does : (lent : List ℕ) → Does text tokens d (emitEvents es) s (memory (m .nodes) lent (m .reports)) tt s′ (memory (m′ .nodes) lent (m′ .reports))
-  pub holds : (lent bs : List ℕ) → s′ .refusal ≡ 0 → Held lent at bs c (m .values) → Held lent at (bs ++ bytesOf es) c′ (m′ .values)
+  pub holds : Right text tokens → (lent bs : List ℕ) → s′ .refusal ≡ 0 → Held lent at bs c (m .values) → Held lent at (bs ++ bytesOf es) c′ (m′ .values)
 
 bytes-append : (es fs : List Event) → bytesOf (es ++ fs) ≡ bytesOf es ++ bytesOf fs
 unfolding bytesOf
@@ -110,12 +111,12 @@ module _ (text tokens : List ℕ) (d : ℕ) where
   module _ (at : ℕ) (s : Reading) (c : Count) (m : Memory) where
     pub decodes-none : Decodes text tokens d [] at s c m s c m
     unfolding emitEvents bytesOf
-    decodes-none = record { does = λ lent. gives; holds = λ lent bs h k. rw append-nil k }
+    decodes-none = record { does = λ lent. gives; holds = λ w lent bs h k. rw append-nil k }
 
     pub decodes-byte : (b : ℕ) (c′ : Count) (vs′ : List ℕ) → PushByte at b c (m .values) c′ vs′
         → Decodes text tokens d (byte b ∷ []) at s c m s c′ (memory (m .nodes) vs′ (m .reports))
     unfolding emitEvents bytesOf
-    decodes-byte b c′ vs′ p = record { does = λ lent. gives; holds = λ lent bs h k. p .holds lent bs k }
+    decodes-byte b c′ vs′ p = record { does = λ lent. gives; holds = λ w lent bs h k. p .holds lent bs k }
 
     pub decodes-report : (kind detail : ℕ) (p : Span) (s′ : Reading) (m′ : Memory) → Does text tokens d (emit kind detail p) s m tt s′ m′
         → Decodes text tokens d (report kind detail p ∷ []) at s c m s′ c m′
@@ -123,7 +124,7 @@ module _ (text tokens : List ℕ) (d : ℕ) where
     decodes-report kind detail p s′ m′ e =
         record {
           does = λ lent. then (emit-over text tokens d kind detail p s (m .nodes) (m .values) (m .reports) s′ (m′ .nodes) (m′ .values) (m′ .reports) e lent) gives;
-          holds = λ lent bs h k. rw (append-nil, emit-same text tokens d kind detail p s (m .nodes) (m .values) (m .reports) s′ (m′ .nodes) (m′ .values) (m′ .reports) e h) k;
+          holds = λ w lent bs h k. rw (append-nil, emit-same text tokens d kind detail p s (m .nodes) (m .values) (m .reports) s′ (m′ .nodes) (m′ .values) (m′ .reports) e w h) k;
         }
 
     pub decodes-then : (es fs : List Event) (s₁ : Reading) (c₁ : Count) (m₁ : Memory) (s₂ : Reading) (c₂ : Count) (m₂ : Memory)
@@ -131,8 +132,8 @@ module _ (text tokens : List ℕ) (d : ℕ) where
     unfolding eval
     decodes-then es fs s₁ c₁ m₁ s₂ c₂ m₂ e f =
         record {
-          does = λ lent. record { is = rw (emits es fs (s .state) (memory (m .nodes) lent (m .reports))) ((then {p = emitEvents es} {f = λ _. emitEvents fs} (e .does lent) (f .does lent)) .is) };
-          holds = λ lent bs h k. rw (bytes-append es fs, ← append-assoc) (f .holds lent (bs ++ bytesOf es) h (e .holds lent bs (unrefused (f .does lent) h .0) k));
+          does = λ lent. record { is = λ w. rw (emits es fs (s .state) (memory (m .nodes) lent (m .reports))) ((then {p = emitEvents es} {f = λ _. emitEvents fs} (e .does lent) (f .does lent)) .is w) };
+          holds = λ w lent bs h k. rw (bytes-append es fs, ← append-assoc) (f .holds w lent (bs ++ bytesOf es) h (e .holds w lent bs (unrefused (f .does lent) w h .0) k));
         }
 
 -- ---- a loop over events: those that are decoded, and those that are left

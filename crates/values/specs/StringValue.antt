@@ -50,7 +50,7 @@ module _ (text tokens : List ℕ) (d : ℕ) (s : Reading) (c : Count) (ns vs rs 
   at = s .state .values
 
   pub string-stays : (s .refusal ≡ 0 → ⊥) → (m′ : Memory) → StringKept text tokens d s c (memory ns vs rs) at s m′
-  string-stays h m′ = record { does = λ lent bs k. record { is = rw (ne-eqb (s .refusal) 0 h) } }
+  string-stays h m′ = record { does = λ lent bs k. record { is = λ w. rw (ne-eqb (s .refusal) 0 h) } }
 
   module _ (h : s .refusal ≡ 0) where
     -- Where the words are more than there is room for.

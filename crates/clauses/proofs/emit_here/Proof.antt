@@ -1,6 +1,7 @@
 -- `emit_here` meets its contract.
 use Rattle.reading.specs.Does.{then}
 use Rattle.stream.specs.Commands.{here-is}
+use Rattle.reading.specs.Leaves.{emit-does}
 use borrow.Author.Needs.{needs}
 use Rattle.clauses.proofs.emit_here.Statement.{statement}
 use Rattle.clauses.proofs.emit_here.Tie as tie
@@ -24,7 +25,7 @@ same-length-3 : tie.Need-same-length-3
 same-length-3 c = c .before .before .before .before .before .before .emit .kept .1 .1 .1 .1 .1 .1 .0
 
 returns : tie.Need-returns
-returns c = then (here-is (c .before .before .before .before .before .before .before .before .before .before .before .token-start .ensures) (c .before .before .before .before .before .before .before .before .before .before .token-end .ensures)) (c .before .before .before .before .before .before .emit .ensures)
+returns c = then (here-is (c .before .before .before .before .before .before .before .before .before .before .before .token-start .ensures) (c .before .before .before .before .before .before .before .before .before .before .token-end .ensures)) (emit-does (c .before .before .before .before .before .before .emit .ensures))
 
 pub emit-here-spec : {M : Type 1} → statement M
 emit-here-spec =

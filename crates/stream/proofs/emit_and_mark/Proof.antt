@@ -1,5 +1,6 @@
 -- `emit_and_mark` meets its contract.
 use Rattle.stream.specs.Commands.{mark-emit}
+use Rattle.reading.specs.Leaves.{emit-does}
 use borrow.Author.Needs.{needs}
 use Rattle.stream.proofs.emit_and_mark.Statement.{statement}
 use Rattle.stream.proofs.emit_and_mark.Tie as tie
@@ -20,7 +21,7 @@ same-length-3 : tie.Need-same-length-3
 same-length-3 c = search needs
 
 returns : tie.Need-returns
-returns c = mark-emit (c .before .before .before .before .before .before .before .before .before .before .mark .ensures) (c .before .before .before .before .before .before .emit .ensures)
+returns c = mark-emit (c .before .before .before .before .before .before .before .before .before .before .mark .ensures) (emit-does (c .before .before .before .before .before .before .emit .ensures))
 
 pub emit-and-mark-spec : {M : Type 1} → statement M
 emit-and-mark-spec =

@@ -1,6 +1,7 @@
 -- `path_in_group` meets its contract.
 use mathlib.Core.Path.{_∙_}
 use Rattle.reading.specs.Does.{then, gives, when-true, when-false}
+use Rattle.reading.specs.Leaves.{emit-does}
 use borrow.Author.Needs.{needs}
 use Rattle.imports.proofs.group.path_in_group.Statement.{statement}
 use Rattle.imports.proofs.group.path_in_group.Tie as tie
@@ -24,7 +25,7 @@ same-length-3 : tie.Need-same-length-3
 same-length-3 c = c .before .before .before .before .before .before .emit .kept .1 .1 .1 .1 .1 .1 .0 ∙ c .before .before .before .before .before .before .before .before .before .before .before .before .before .before .before .before .skip-path .kept .1 .1 .1 .1 .1 .1 .0 ∙ c .before .before .before .before .before .before .before .before .before .before .before .before .before .before .before .before .before .before .before .before .before .before .before .before .before .before .before .before .check .kept .1 .1 .1 .1 .1 .1 .0
 
 returns : tie.Need-returns
-returns c = then (c .before .before .before .before .before .before .before .before .before .before .before .before .before .before .before .before .before .before .before .before .before .before .before .before .before .before .before .before .check .ensures) (when-true (c .before .before .before .before .before .before .before .before .before .before .before .before .before .before .before .before .before .before .before .before .if1 .taken) (then (c .before .before .before .before .before .before .before .before .before .before .before .before .before .before .before .before .skip-path .ensures) (c .before .before .before .before .before .before .emit .ensures)))
+returns c = then (c .before .before .before .before .before .before .before .before .before .before .before .before .before .before .before .before .before .before .before .before .before .before .before .before .before .before .before .before .check .ensures) (when-true (c .before .before .before .before .before .before .before .before .before .before .before .before .before .before .before .before .before .before .before .before .if1 .taken) (then (c .before .before .before .before .before .before .before .before .before .before .before .before .before .before .before .before .skip-path .ensures) (emit-does (c .before .before .before .before .before .before .emit .ensures))))
 
 same-length-4 : tie.Need-same-length-4
 same-length-4 c = c .before .before .before .before .before .before .before .before .check .kept .1 .1 .1 .1 .0

@@ -1,6 +1,7 @@
 -- `star_in_group` meets its contract.
 use Rattle.reading.specs.Does.{then}
 use Rattle.stream.specs.Commands.{before-is}
+use Rattle.reading.specs.Leaves.{emit-does}
 use borrow.Author.Needs.{needs}
 use Rattle.imports.proofs.group.star_in_group.Statement.{statement}
 use Rattle.imports.proofs.group.star_in_group.Tie as tie
@@ -24,7 +25,7 @@ same-length-3 : tie.Need-same-length-3
 same-length-3 c = c .before .before .before .before .before .before .emit .kept .1 .1 .1 .1 .1 .1 .0
 
 returns : tie.Need-returns
-returns c = then (before-is (c .before .before .before .before .before .before .before .before .before .before .before .before-start .ensures) (c .before .before .before .before .before .before .before .before .before .before .token-start .ensures)) (c .before .before .before .before .before .before .emit .ensures)
+returns c = then (before-is (c .before .before .before .before .before .before .before .before .before .before .before .before-start .ensures) (c .before .before .before .before .before .before .before .before .before .before .token-start .ensures)) (emit-does (c .before .before .before .before .before .before .emit .ensures))
 
 pub star-in-group-spec : {M : Type 1} → statement M
 star-in-group-spec =

@@ -2,6 +2,7 @@
 use borrow.Author.Tests.{ne-eqb}
 use mathlib.Core.Path.{refl}
 use Rattle.reading.specs.Does.{then, gives, when-true, when-false}
+use Rattle.reading.specs.Leaves.{emit-does}
 use borrow.Author.Needs.{needs}
 use Rattle.imports.proofs.group.tell_count.Statement.{statement}
 use Rattle.imports.proofs.group.tell_count.Tie as tie
@@ -19,7 +20,7 @@ same-length-3 : tie.Need-same-length-3
 same-length-3 c = c .before .before .before .before .before .before .emit .kept .1 .1 .1 .1 .1 .1 .0
 
 returns : tie.Need-returns
-returns c = rw (c .before .before .before .before .before .before .before .before .before .before .if1 .taken) (then (when-true refl (c .before .before .before .before .before .before .emit .ensures)) (when-false refl gives))
+returns c = rw (c .before .before .before .before .before .before .before .before .before .before .if1 .taken) (then (when-true refl (emit-does (c .before .before .before .before .before .before .emit .ensures))) (when-false refl gives))
 
 emit-requires-2 : tie.Need-emit-requires-2
 emit-requires-2 c = search needs
@@ -34,7 +35,7 @@ same-length-6 : tie.Need-same-length-6
 same-length-6 c = c .before .before .before .before .before .before .emit2 .kept .1 .1 .1 .1 .1 .1 .0
 
 returns-2 : tie.Need-returns-2
-returns-2 c = rw (c .before .before .before .before .before .before .before .before .before .before .if2 .taken) (then (when-false refl gives) (when-true refl (c .before .before .before .before .before .before .emit2 .ensures)))
+returns-2 c = rw (c .before .before .before .before .before .before .before .before .before .before .if2 .taken) (then (when-false refl gives) (when-true refl (emit-does (c .before .before .before .before .before .before .emit2 .ensures))))
 
 returns-3 : tie.Need-returns-3
 returns-3 c = then (when-false (ne-eqb _ _ (c .before .if1 .left)) gives) (when-false (ne-eqb _ _ (c .if2 .left)) gives)

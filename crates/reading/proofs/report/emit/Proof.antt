@@ -1,21 +1,20 @@
 -- `emit` meets its contract.
 use mathlib.Core.Path.{refl}
 use lib.ListN.{length-set}
-use Rattle.reading.specs.Does.{stays}
-use Rattle.reading.specs.Leaves.{emit-full, emit-fits}
+use Rattle.reading.specs.Leaves.{emit-stays, emit-full, emit-fits}
 use borrow.Author.Needs.{needs}
 use native.Mathlib.Omega.{arith}
 use Rattle.reading.proofs.report.emit.Statement.{statement}
 use Rattle.reading.proofs.report.emit.Tie as tie
 
 returns : tie.Need-returns
-returns c = stays (c .if1 .taken)
+returns c = emit-stays (c .if1 .taken)
 
 refuse-requires : tie.Need-refuse-requires
 refuse-requires c κs = search needs
 
 returns-2 : tie.Need-returns-2
-returns-2 c = rw (c .refuse .ensures) (emit-full _ _ _ _ _ _ _ (c .before .before .before .if1 .left) _ _ _ _ (c .before .if2 .taken))
+returns-2 c = rw (c .refuse .ensures) (emit-full _ _ _ _ (c .before .before .before .if1 .left) _ _ _ _ (c .before .if2 .taken))
 
 report-words-requires : tie.Need-report-words-requires
 report-words-requires c κs = search needs
@@ -63,7 +62,7 @@ same-length : tie.Need-same-length
 same-length c = simp length-set
 
 returns-3 : tie.Need-returns-3
-returns-3 c = emit-fits _ _ _ _ _ _ _ (c .before .before .before .before .if1 .left) _ _ _ _ _ _ (c .before .before .if2 .left) refl refl (c .before .report-words .ensures)
+returns-3 c = emit-fits _ _ _ _ (c .before .before .before .before .if1 .left) _ _ _ _ _ _ (c .before .before .if2 .left) refl refl (c .before .report-words .ensures)
 
 pub emit-spec : {M : Type 1} → statement M
 emit-spec =

@@ -1,5 +1,6 @@
 -- `step` meets its contract, by case.
 use Rattle.values.specs.Decodes.{decodes-byte, decodes-report}
+use Rattle.reading.specs.Leaves.{emit-does}
 use borrow.Author.Needs.{needs}
 use Rattle.values.proofs.strings.step.Statement.{statement}
 use Rattle.values.proofs.strings.step.Tie as tie
@@ -32,7 +33,7 @@ same-length-4 : tie.Need-same-length-4
 same-length-4 c = search needs
 
 returns-2 : tie.Need-returns-2
-returns-2 c = rw (c .before .before .before .before .before .before .before .before .before .before .before .event2 .given .1) (decodes-report _ _ _ _ _ _ _ _ _ _ _ _ (c .before .before .before .before .before .before .emit .ensures))
+returns-2 c = rw (c .before .before .before .before .before .before .before .before .before .before .before .event2 .given .1) (decodes-report _ _ _ _ _ _ _ _ _ _ _ _ (emit-does (c .before .before .before .before .before .before .emit .ensures)))
 
 pub step-spec : {M : Type 1} → statement M
 step-spec =
