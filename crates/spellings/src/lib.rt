@@ -25,7 +25,7 @@ fn alike(a: &[u8], b: &[u8]) -> bool
 }
 
 // Whether token `n` is of the kind and spelled `name`.
-fn named(text: &[u8], tokens: &[u32], kind: u32, name: &[u8], n: usize) -> bool
+pub fn named(text: &[u8], tokens: &[u32], kind: u32, name: &[u8], n: usize) -> bool
     requires { ⌜ n < length (now tokens) ⌝ }
     ensures { λ r. ⌜ r ≡ (eqb (tokenKind (wordAt (now (tokens .entry)) n)) kind && alike (spelling (now (text .entry)) (now (tokens .entry)) n) (now (name .entry))) ⌝ }
 {

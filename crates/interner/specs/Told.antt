@@ -1,0 +1,61 @@
+-- Laws of what the table tells of.
+use mathlib.Core.Path.{_≡_, refl, sym, _∙_, ap}
+use mathlib.Core.Bool.{Bool, true, false, cond, _&&_, false≢true}
+use mathlib.Core.List.{List, [], _∷_}
+use Prim.Native.Nat.{ℕ, zero, suc, _+_, _≤_, _<_}
+use native.Mathlib.Omega.{arith}
+use borrow.Author.Tests.{lt-ltb, le-ltb, ltb-true}
+use lib.Dec.{eqb, ltb}
+use lib.ListN.{length, getD, List·getD-eq-default}
+use Rattle.words.specs.Token
+use Rattle.words.specs.Words.{tokenWord, tokenKind, pack, high}
+use Rattle.literals.specs.Spelling.{wordAt, firstAlike}
+use Rattle.spellings.specs.Spelled.{within}
+use Rattle.reading.specs.Source.{tableStart, tableEntries, entry, isName, isTold, firstOf}
+
+abbrev pub kindAt : List ℕ → ℕ → ℕ
+kindAt tokens i = tokenKind (wordAt tokens i)
+
+pub kind-past : (tokens : List ℕ) (i : ℕ) → length tokens ≤ i → Token.Eof ≡ kindAt tokens i
+unfolding pack high
+kind-past tokens i h = rw (List·getD-eq-default tokens (tokenWord Token.Eof 0) {n = i} h)
+
+pub kind-within : (tokens : List ℕ) (i k : ℕ) → i < length tokens → k ≡ tokenKind (getD tokens i 0) → k ≡ kindAt tokens i
+kind-within tokens i k h e = e ∙ ap tokenKind (within tokens i 0 (tokenWord Token.Eof 0) h)
+
+module _ (source tokens : List ℕ) (kind i : ℕ) where
+  pub told-none : length source ≤ tableStart → false ≡ isTold source tokens kind i
+  unfolding isTold
+  told-none h = rw (le-ltb tableStart (length source) h)
+
+  module _ (long : tableStart < length source) where
+    pub told-past : tableEntries ≤ i → false ≡ isTold source tokens kind i
+    unfolding isTold
+    told-past h = rw (lt-ltb tableStart (length source) long, le-ltb i tableEntries h)
+
+    module _ (h : i < tableEntries) (t : Bool) (e : t ≡ isName kind) where
+      pub told-kind : t ≡ true → (k : ℕ) → k ≡ kindAt tokens i → eqb k kind ≡ isTold source tokens kind i
+      unfolding isTold
+      told-kind f k g = rw (lt-ltb tableStart (length source) long, lt-ltb i tableEntries h, ← e, f, g)
+
+      pub told-other : t ≡ false → false ≡ isTold source tokens kind i
+      unfolding isTold
+      told-other f = rw (lt-ltb tableStart (length source) long, lt-ltb i tableEntries h, ← e, f)
+
+  pub told-entry : isTold source tokens kind i ≡ true → i < tableEntries
+  unfolding isTold
+  told-entry e = go (ltb tableStart (length source)) (ltb i tableEntries) refl e
+    where
+      go : (a b : Bool) → ltb i tableEntries ≡ b → a && (b && (isName kind && eqb (kindAt tokens i) kind)) ≡ true → i < tableEntries
+      go true true h e = ltb-true i tableEntries h
+      go true false h e = absurd (false≢true e)
+      go false b h e = absurd (false≢true e)
+
+  module _ (t : Bool) (e : t ≡ isTold source tokens kind i) where
+    pub first-told : t ≡ true → entry source i ≡ firstOf source tokens kind i
+    unfolding firstOf
+    first-told h = rw (← e, h)
+
+    pub first-untold : t ≡ false → firstAlike source tokens kind i ≡ firstOf source tokens kind i
+    unfolding firstOf
+    first-untold h = rw (← e, h)

@@ -1,0 +1,58 @@
+// The table of names behind the text: two bytes for each token, the low one first.
+ghost use mathlib.Core.Path.{_≡_};
+ghost use Prim.Native.Nat.{_<_};
+ghost use lib.ListN.{length, getD};
+ghost use Rattle.words.specs.Words.{tokenKind};
+ghost use Rattle.literals.specs.Spelling.{wordAt};
+ghost use Rattle.reading.specs.Source.{entry, isName};
+use words::token;
+
+// No text has more bytes, so the table begins there.
+pub const START: usize = 65536;
+
+// Tokens from this one on are not in the table.
+pub const ENTRIES: usize = 65536;
+
+// The kind of a token; past the words stands an Eof.
+pub fn kind_at(tokens: &[u32], i: usize) -> u32
+    ensures { λ r. ⌜ r ≡ tokenKind (wordAt (now (tokens .entry)) i) ⌝ }
+{
+    if tokens.len() <= i {
+        return token::EOF;
+    }
+    words::token_kind(tokens[i])
+}
+
+pub fn is_name(kind: u32) -> bool
+    ensures { λ r. ⌜ r ≡ isName kind ⌝ }
+{
+    if kind == token::IDENTIFIER {
+        return true;
+    }
+    kind == token::BUILTIN_NAME
+}
+
+pub fn wide(b: u8) -> usize
+    ensures { λ r. ⌜ (r ≡ b) × (r < 256) ⌝ }
+{
+    b as usize
+}
+
+// A byte of the source; past its end 0.
+fn byte(source: &[u8], n: usize) -> usize
+    ensures { λ r. ⌜ (r ≡ getD (now (source .entry)) n 0) × (r < 256) ⌝ }
+{
+    if n < source.len() {
+        return wide(source[n]);
+    }
+    0
+}
+
+// What the table says of token `i`.
+pub fn get(source: &[u8], i: usize) -> usize
+    requires { ⌜ i < 65536 ⌝ }
+    ensures { λ r. ⌜ r ≡ entry (now (source .entry)) i ⌝ }
+{
+    let at = START + 2 * i;
+    byte(source, at) + 256 * byte(source, at + 1)
+}
