@@ -24,7 +24,7 @@ pub fn intern(s: Reading, text: &[u8], tokens: &[u32], kind: u32) -> u32
     let state = s.state;
     let cursor = state.cursor;
     let last = cst::previous(cursor.at);
-    let first = spellings::first_alike(text, tokens, kind, last);
+    let first = interner::first_of(text, tokens, kind, last);
     (first % PAYLOADS) as u32
 }
 

@@ -8,14 +8,14 @@ use Rattle.names.proofs.intern.Tie as tie
 previous-requires : tie.Need-previous-requires
 previous-requires c κs = search needs
 
-first-alike-requires : tie.Need-first-alike-requires
-first-alike-requires c κs = search needs
+first-of-requires : tie.Need-first-of-requires
+first-of-requires c κs = search needs
 
 cast-result : tie.Need-cast-result
 cast-result c = search needs
 
 returns : tie.Need-returns
-returns c = rw (c .before .previous .ensures) at (ap cut (c .first-alike .ensures))
+returns c = rw (c .before .previous .ensures) at (ap cut (c .first-of .ensures))
 
 pub intern-spec : {M : Type 1} → statement M
-intern-spec = tie.close (tie.spec previous-requires first-alike-requires cast-result returns)
+intern-spec = tie.close (tie.spec previous-requires first-of-requires cast-result returns)
