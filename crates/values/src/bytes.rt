@@ -1,7 +1,11 @@
 // The bytes of a string, four to a word, as they come.
 ghost use mathlib.Core.Path.{_≡_};
-ghost use Prim.Native.Nat.{_<_};
+ghost use mathlib.Core.Bool.{true};
+ghost use Prim.Native.Nat.{_+_, _*_, _/_, _%_, _≤_, _<_};
+ghost use lib.ListN.{length};
+ghost use Rattle.values.specs.declared.Count.the-variants.{Words};
 ghost use Rattle.values.specs.Fours.{unit, PutByte, PushByte};
+ghost use Rattle.values.specs.Plain.{Plain, Quad, word, Stretch};
 use crate::Count;
 
 // What the n-th byte counts in its word.
@@ -49,5 +53,108 @@ pub(crate) fn push_byte(values: &mut [u32], at: usize, count: Count, b: u32) -> 
             put_byte(&mut values[start..], n, b)
         }
         Count::DontFit => Count::DontFit,
+    }
+}
+
+// Where a stretch of plain bytes ends, and how many bytes there are then.
+pub(crate) struct Filled {
+    pub count: Count,
+    pub next: usize,
+}
+
+// A byte that stands for itself: ASCII, and no backslash.
+pub(crate) fn plain(b: u8) -> bool
+    ensures { λ r. ⌜ (r ≡ true → Plain b) ⌝ }
+{
+    if 128 <= b {
+        return false;
+    }
+    if b == 92 {
+        return false;
+    }
+    true
+}
+
+fn all_plain(a: u8, b: u8, c: u8, e: u8) -> bool
+    ensures { λ r. ⌜ (r ≡ true → Quad a b c e) ⌝ }
+{
+    if !plain(a) {
+        return false;
+    }
+    if !plain(b) {
+        return false;
+    }
+    if !plain(c) {
+        return false;
+    }
+    plain(e)
+}
+
+// Four bytes as a word, the first lowest.
+fn word(a: u8, b: u8, c: u8, e: u8) -> u32
+    ensures { λ r. ⌜ r ≡ word a b c e ⌝ }
+{
+    a as u32 + 256 * (b as u32 + 256 * (c as u32 + 256 * (e as u32)))
+}
+
+// The bytes of `w` from byte `i` on, as whole words behind the `n` bytes so far, as long as all four of a word are plain:
+// how many words, at most `limit`.
+fn put_words(values: &mut [u32], at: usize, n: usize, w: &[u8], i: usize, limit: usize) -> usize
+    requires { ⌜ (n % 4 ≡ 0) × (at + 1 + n / 4 + limit ≤ length (now values)) × (i + 4 * limit ≤ length (now w)) ⌝ }
+    ensures { λ r. ⌜ (r ≤ limit) × Stretch (now (w .entry)) i (i + 4 * r) at (Words n) (now (values .entry)) (Words (n + 4 * r)) (now (values .exit)) ⌝ }
+{
+    let first = at + 1 + n / 4;
+    let mut t = 0;
+    while t < limit {
+        let j = i + 4 * t;
+        let a = w[j];
+        let b = w[j + 1];
+        let c = w[j + 2];
+        let e = w[j + 3];
+        if !all_plain(a, b, c, e) {
+            return t;
+        }
+        values[first + t] = word(a, b, c, e);
+        t += 1;
+    }
+    t
+}
+
+fn least(a: usize, b: usize) -> usize
+    ensures { λ r. ⌜ (r ≤ a) × (r ≤ b) ⌝ }
+{
+    if a < b {
+        return a;
+    }
+    b
+}
+
+// Plain bytes from byte `i` of `w` on, as many as fill whole words, behind the place of the first word, which is at `at`.
+// Where the bytes so far fill no whole words, and where there is no room, none.
+pub(crate) fn push_plain(values: &mut [u32], at: usize, count: Count, w: &[u8], i: usize) -> Filled
+    requires { ⌜ i ≤ length (now w) ⌝ }
+    ensures { λ r. ⌜ Stretch (now (w .entry)) i (r .next) at count (now (values .entry)) (r .count) (now (values .exit)) ⌝ }
+{
+    match count {
+        Count::Words(n) => {
+            if n % 4 != 0 {
+                return Filled { count, next: i };
+            }
+            if values.len() <= at {
+                return Filled { count, next: i };
+            }
+            let first = at + 1 + n / 4;
+            if values.len() <= first {
+                return Filled { count, next: i };
+            }
+            let limit = least(values.len() - first, (w.len() - i) / 4);
+            let t = put_words(values, at, n, w, i, limit);
+            let more = Count::Words(n + 4 * t);
+            Filled {
+                count: more,
+                next: i + 4 * t,
+            }
+        }
+        Count::DontFit => Filled { count, next: i },
     }
 }

@@ -176,6 +176,11 @@ fn piece_at(w: &[u8], base: usize, i: usize) -> Piece
     requires { ⌜ (base + length (now w) < 4294967296) × (i < length (now w)) ⌝ }
     ensures { λ r. ⌜ Cuts base (now (w .entry)) i (r .event) (r .next) ⌝ }
 {
+    let b = w[i];
+    if bytes::plain(b) {
+        let event = Event::Byte(b as u32);
+        return Piece { event, next: i + 1 };
+    }
     let c = char_at(w, i);
     let code = c.code;
     let next = c.end;
@@ -276,7 +281,7 @@ fn step(
     }
 }
 
-// The characters between the quotes of a string token, piece by piece.
+// The characters between the quotes of a string token: stretches of plain bytes, and piece by piece what stands between them.
 fn decode_pieces(
     d: u32,
     s: Decoded,
@@ -292,13 +297,22 @@ fn decode_pieces(
     requires { ⌜ base + length (now w) < 4294967296 ⌝ }
     ensures { λ r. ⌜ Decodes (now (text .entry)) (now (tokens .entry)) d (events base (now (w .entry)) 0) at (s .at) (s .count) (memory (now (nodes .entry)) (now (values .entry)) (now (reports .entry))) (r .at) (r .count) (memory (now (nodes .exit)) (now (values .exit)) (now (reports .exit))) ⌝ }
 {
-    let mut so_far = s;
-    let mut i = 0;
+    let reading = s.at;
+    let none = s.count;
+    let first = bytes::push_plain(values, at, none, w, 0);
+    let count = first.count;
+    let mut so_far = Decoded { at: reading, count };
+    let mut i = first.next;
     while i < w.len() {
         let p = piece_at(w, base, i);
         let event = p.event;
-        so_far = step(d, so_far, text, tokens, nodes, values, reports, at, event);
-        i = p.next;
+        let one = step(d, so_far, text, tokens, nodes, values, reports, at, event);
+        let then = one.at;
+        let held = one.count;
+        let more = bytes::push_plain(values, at, held, w, p.next);
+        let count = more.count;
+        so_far = Decoded { at: then, count };
+        i = more.next;
     }
     so_far
 }

@@ -1,19 +1,24 @@
 -- `decode_pieces` meets its contract: what is decoded, and what is left, make the whole.
+use mathlib.Core.Path.{_∙_}
 use Prim.Native.Nat.{_-_}
 use lib.ListN.{length}
 use Rattle.definition.specs.Prog.{memory}
 use Rattle.values.specs.Chars.{events, events-over}
 use Rattle.values.specs.Decodes.{Walk, walk-first, walk-on, walk-last}
+use Rattle.values.specs.Plain.{decodes-past, walk-stretch}
 use borrow.Author.Needs.{needs}
 use native.Mathlib.Omega.{arith}
 use Rattle.values.proofs.strings.decode_pieces.Statement.{statement}
 use Rattle.values.proofs.strings.decode_pieces.Tie as tie
 
 abbrev Inv-loop : tie.InvT-loop
-Inv-loop d text tokens nodes₀ values₀ reports₀ at w base so-far₀ i₀ nodes values reports so-far i = Walk text tokens d at (events base w 0) (so-far₀ .at) (so-far₀ .count) (memory nodes₀ values₀ reports₀) (events base w i) (so-far .at) (so-far .count) (memory nodes values reports)
+Inv-loop d text tokens nodes₀ values₀ reports₀ at w base so-far₀ i₀ nodes values reports so-far i = Walk text tokens d at (events base w i₀) (so-far₀ .at) (so-far₀ .count) (memory nodes₀ values₀ reports₀) (events base w i) (so-far .at) (so-far .count) (memory nodes values reports)
 
 abbrev μ-loop : tie.MeasureT-loop
 μ-loop d text tokens nodes₀ values₀ reports₀ at w base so-far₀ i₀ nodes values reports so-far i = length w - i
+
+push-plain-requires : tie.Need-push-plain-requires Inv-loop μ-loop
+push-plain-requires c κs = search needs
 
 loop-holds : tie.Need-loop-holds Inv-loop μ-loop
 loop-holds c = walk-first _ _ _ _ _ _ _ _
@@ -24,23 +29,26 @@ piece-at-requires c κs = search needs
 step-requires : tie.Need-step-requires Inv-loop μ-loop
 step-requires c κs = c .before .before .before .piece-at .ensures .small
 
+push-plain-requires-2 : tie.Need-push-plain-requires-2 Inv-loop μ-loop
+push-plain-requires-2 c κs = c .before .before .before .before .before .before .before .before .before .before .before .before .piece-at .ensures .within
+
 loop-less : tie.Need-loop-less Inv-loop μ-loop
-loop-less c = omega (arith, c .before .before .before .before .before .before .before .before .before .before .piece-at .ensures .on, c .before .before .before .before .before .before .before .before .before .before .piece-at .ensures .within)
+loop-less c = omega (arith, c .before .before .before .before .before .before .before .before .before .before .before .before .before .before .before .piece-at .ensures .on, c .before .before .before .before .before .before .before .before .before .before .before .before .before .before .before .piece-at .ensures .within, c .before .before .push-plain2 .ensures .on, c .before .before .push-plain2 .ensures .within)
 
 loop-again : tie.Need-loop-again Inv-loop μ-loop
-loop-again c = walk-on _ _ _ _ _ _ _ _ _ _ _ _ (c .before .before .before .before .before .before .before .before .before .before .before .before .loop .inv) _ _ _ _ _ (c .before .before .before .before .before .before .before .before .before .before .piece-at .ensures .is) (c .before .before .before .before .before .before .step .ensures) (c .before .before .before .before .before .nodes .given) (c .before .before .before .values .given) (c .before .reports .given)
+loop-again c = walk-stretch _ _ _ _ _ _ _ _ _ _ _ _ _ _ (c .before .before .push-plain2 .ensures) _ _ _ _ _ (walk-on _ _ _ _ _ _ _ _ _ _ _ _ (c .before .before .before .before .before .before .before .before .before .before .before .before .before .before .before .before .before .loop .inv) _ _ _ _ _ (c .before .before .before .before .before .before .before .before .before .before .before .before .before .before .before .piece-at .ensures .is) (c .before .before .before .before .before .before .before .before .before .before .before .step .ensures) (c .before .before .before .before .before .before .before .before .before .before .nodes .given) (c .before .before .before .before .before .before .before .before .values2 .given) (c .before .before .before .before .before .before .reports .given))
 
 same-length : tie.Need-same-length Inv-loop μ-loop
 same-length c = c .before .loop .inv .nodes
 
 same-length-2 : tie.Need-same-length-2 Inv-loop μ-loop
-same-length-2 c = c .before .loop .inv .values
+same-length-2 c = c .before .loop .inv .values ∙ c .before .before .before .before .push-plain .ensures .long
 
 same-length-3 : tie.Need-same-length-3 Inv-loop μ-loop
 same-length-3 c = c .before .loop .inv .reports
 
 returns : tie.Need-returns Inv-loop μ-loop
-returns c = walk-last _ _ _ _ _ _ _ _ _ _ _ _ (c .before .loop .inv) (events-over _ _ _ (c .loop-test .left))
+returns c = decodes-past _ _ _ _ _ _ _ _ _ _ _ _ _ _ (c .before .before .before .before .push-plain .ensures) _ _ _ _ (walk-last _ _ _ _ _ _ _ _ _ _ _ _ (c .before .loop .inv) (events-over _ _ _ (c .loop-test .left)))
 
 pub decode-pieces-spec : {M : Type 1} → statement M
 decode-pieces-spec =
@@ -48,9 +56,11 @@ decode-pieces-spec =
     (tie.spec
     Inv-loop
     μ-loop
+    push-plain-requires
     loop-holds
     piece-at-requires
     step-requires
+    push-plain-requires-2
     loop-less
     loop-again
     same-length

@@ -1,0 +1,122 @@
+-- `put_words` meets its contract: the words so far are a stretch of plain bytes.
+use mathlib.Core.Path.{refl}
+use Prim.Native.Nat.{_+_, _-_, _*_, _≤_}
+use Rattle.values.specs.declared.Count.the-variants.{Words}
+use Rattle.values.specs.Plain.{Stretch, unless, stretch-first, stretch-next}
+use borrow.Author.Needs.{needs}
+use native.Mathlib.Omega.{arith}
+use Rattle.values.proofs.bytes.put_words.Statement.{statement}
+use Rattle.values.proofs.bytes.put_words.Tie as tie
+use Rattle.values.proofs.bytes.put_words.Reads as reads
+use Rattle.values.proofs.bytes.put_words.Lts as lts
+use Rattle.values.proofs.bytes.all_plain.Reads as all-plain-reads
+use Rattle.values.proofs.bytes.word.Reads as word-reads
+
+abbrev Inv-loop : tie.InvT-loop
+Inv-loop values₀ at n w i limit first t₀ values t = (t ≤ limit) × Stretch w i (i + 4 * t) at (Words n) values₀ (Words (n + 4 * t)) values
+
+abbrev μ-loop : tie.MeasureT-loop
+μ-loop values₀ at n w i limit first t₀ values t = limit - t
+
+add-first : tie.Need-add-first Inv-loop μ-loop
+add-first c = search needs
+
+add-first-2 : tie.Need-add-first-2 Inv-loop μ-loop
+add-first-2 c = search needs
+
+loop-holds : tie.Need-loop-holds Inv-loop μ-loop
+loop-holds c = (omega arith, stretch-first _ _ _ _ _ (omega arith) _ refl)
+
+mul-j : tie.Need-mul-j Inv-loop μ-loop
+mul-j c = search needs
+
+add-j : tie.Need-add-j Inv-loop μ-loop
+add-j c = search needs
+
+shared-slice-read-a : tie.Need-shared-slice-read-a Inv-loop μ-loop
+shared-slice-read-a c = search needs
+
+add-b : tie.Need-add-b Inv-loop μ-loop
+add-b c = search needs
+
+shared-slice-read-b : tie.Need-shared-slice-read-b Inv-loop μ-loop
+shared-slice-read-b c = search needs
+
+add-c : tie.Need-add-c Inv-loop μ-loop
+add-c c = search needs
+
+shared-slice-read-c : tie.Need-shared-slice-read-c Inv-loop μ-loop
+shared-slice-read-c c = search needs
+
+add-e : tie.Need-add-e Inv-loop μ-loop
+add-e c = search needs
+
+shared-slice-read-e : tie.Need-shared-slice-read-e Inv-loop μ-loop
+shared-slice-read-e c = search needs
+
+all-plain-requires : tie.Need-all-plain-requires Inv-loop μ-loop
+all-plain-requires c κs = search needs
+
+same-length : tie.Need-same-length Inv-loop μ-loop
+same-length c = search needs
+
+returns : tie.Need-returns Inv-loop μ-loop
+returns c = search needs
+
+word-requires : tie.Need-word-requires Inv-loop μ-loop
+word-requires c κs = search needs
+
+add-values : tie.Need-add-values Inv-loop μ-loop
+add-values c = search needs
+
+mul-values : tie.Need-mul-values Inv-loop μ-loop
+mul-values c = search needs
+
+slice-write-values : tie.Need-slice-write-values Inv-loop μ-loop
+slice-write-values c = search needs
+
+add-t : tie.Need-add-t Inv-loop μ-loop
+add-t c = search needs
+
+loop-less : tie.Need-loop-less Inv-loop μ-loop
+loop-less c = search needs
+
+loop-again : tie.Need-loop-again Inv-loop μ-loop
+loop-again c = (omega arith, stretch-next _ _ _ _ _ _ _ _ (c .before .before .before .before .before .before .before .before .loop .inv .1) (omega arith) (c .before .before .all-plain .ensures (unless _ (c .before .if1 .left))) (c .before .before .before .before .before .before .before .before .before .before .before .pre .0) (omega (arith, c .before .before .before .before .before .before .before .before .loop .inv .1 .long)) _ (c .word .ensures))
+
+same-length-2 : tie.Need-same-length-2 Inv-loop μ-loop
+same-length-2 c = search needs
+
+returns-2 : tie.Need-returns-2 Inv-loop μ-loop
+returns-2 c = search needs
+
+pub put-words-spec : {M : Type 1} → statement M
+put-words-spec =
+    tie.close
+    (tie.spec
+    Inv-loop
+    μ-loop
+    add-first
+    add-first-2
+    loop-holds
+    mul-j
+    add-j
+    shared-slice-read-a
+    add-b
+    shared-slice-read-b
+    add-c
+    shared-slice-read-c
+    add-e
+    shared-slice-read-e
+    all-plain-requires
+    same-length
+    returns
+    word-requires
+    add-values
+    mul-values
+    slice-write-values
+    add-t
+    loop-less
+    loop-again
+    same-length-2
+    returns-2)
