@@ -49,27 +49,16 @@ packed-more (a ∷ c ∷ d ∷ e ∷ s) (y ∷ room) b p h =
     let m : n % 4 ≡ length s % 4 = omega arith in
     rw (q, m) (ap (λ (l : List ℕ). (a + 256 * (c + 256 * (d + 256 * e))) ∷ l) (packed-more s room b (p .1 .1 .1 .1) (omega arith)))
 
--- The units are four.
-pub by-four : (P : ℕ → Type 0) → P 1 → P 256 → P 65536 → P 16777216 → (n : ℕ) → P (unit n)
-unfolding unit
-by-four P a b c d n = go (n % 4) (omega arith)
-  where
-    go : (k : ℕ) → k < 4 → P (256 ^ k)
-    go zero h = a
-    go (suc zero) h = b
-    go (suc (suc zero)) h = c
-    go (suc (suc (suc zero))) h = d
-    go (suc (suc (suc (suc k)))) h = absurd (omega arith)
-
 pub unit-is : (n k : ℕ) → n % 4 ≡ k → unit n ≡ 256 ^ k
 unfolding unit
 unit-is n k e = rw e
 
-pub unit-more : (n : ℕ) → 0 < unit n
-unit-more = by-four (λ u. 0 < u) (omega arith) (omega arith) (omega arith) (omega arith)
+-- A word with one byte more, by the byte's place.
+pub joined-is : (n k word b : ℕ) → n % 4 ≡ k → word % 256 ^ k + b * 256 ^ k ≡ joined n word b
+joined-is n k word b e = rw (unit-is n k e)
 
-pub joined-fits : (n word b : ℕ) → b < 256 → word % unit n + b * unit n < 4294967296
-joined-fits n word b h = by-four (λ u. word % u + b * u < 4294967296) (rw (mod-one word) (omega arith)) (omega arith) (omega arith) (omega arith) n
+pub joined-first : (n word b : ℕ) → n % 4 ≡ 0 → b ≡ joined n word b
+joined-first n word b e = rw (unit-is n 0 e, mod-one) (omega arith)
 
 -- One byte more in front of words.
 abbrev pub PutByte : List ℕ → ℕ → ℕ → Count → List ℕ → Type 0
@@ -149,7 +138,3 @@ module _ (at b : ℕ) (hb : b < 256) (vs vs′ : List ℕ) (l : length vs′ ≡
     pub push-put : at < length vs → (r : Count) (room′ : List ℕ) → PutByte (take (length vs - (at + 1)) (drop (at + 1) vs)) n b r room′
         → vs′ ≡ take (at + 1) vs ++ (room′ ++ drop (length vs - (at + 1)) (drop (at + 1) vs)) → PushByte at b c vs r vs′
     push-put h r room′ p f = record { holds = λ lent bs k. held-more lent at bs b hb vs vs′ l n (rw e at k) h r room′ p f }
-
--- The same, with the unit in hand.
-pub joined-at : (n u word b : ℕ) → u ≡ unit n → b < 256 → word % u + b * u < 4294967296
-joined-at n u word b e h = rw e (joined-fits n word b h)

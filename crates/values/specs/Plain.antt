@@ -15,8 +15,10 @@ use Rattle.reading.specs.Does.{Does, gives}
 use Rattle.values.specs.declared.Count.{Count}
 use Rattle.values.specs.declared.Count.the-variants.{Words, DontFit}
 use Rattle.values.specs.Chars.{chars, events, Standing, standing-is}
-use Rattle.values.specs.Pieces.{Cut, cut-plain}
-use Rattle.values.specs.Fours.{Bytes, packed, Held, fours-length}
+use Rattle.values.specs.declared.strings.Event as code
+use Rattle.values.specs.declared.strings.Event.the-variants.{Byte}
+use Rattle.values.specs.Pieces.{Cut, Cuts, cut-plain}
+use Rattle.values.specs.Fours.{Bytes, packed, Held, PushByte, fours-length}
 use Rattle.values.specs.Decodes.{Decodes, decodes-then, Walk, walk-on}
 
 pub record Plain (b : ℕ) : Type 0 where
@@ -123,30 +125,56 @@ module _ (a b c d : ℕ) where
         long = length-set vs (at + 1 + n / 4) (word a b c d) ∙ k .long;
       }
 
--- ---- a stretch of plain bytes, from byte `i` up to byte `j`, stored
+-- ---- a stretch from byte `i` up to byte `j` that is bytes of the value, stored
 
-pub record Stretch (w : List ℕ) (i j at : ℕ) (c : Count) (vs : List ℕ) (c′ : Count) (vs′ : List ℕ) : Type 0 where
+pub record Stretch (base : ℕ) (w : List ℕ) (i j at : ℕ) (c : Count) (vs : List ℕ) (c′ : Count) (vs′ : List ℕ) : Type 0 where
   pub past : List ℕ
-  pub left : (base : ℕ) → events base w i ≡ plainly past ++ events base w j
+  pub left : events base w i ≡ plainly past ++ events base w j
   pub on : i ≤ j
   pub within : j ≤ length w
   pub holds : (lent bs : List ℕ) → Held lent at bs c vs → Held lent at (bs ++ past) c′ vs′
   pub long : length vs′ ≡ length vs
 
-module _ (w : List ℕ) (i at : ℕ) (c : Count) (vs : List ℕ) where
-  pub stretch-none : i ≤ length w → Stretch w i i at c vs c vs
+module _ (base : ℕ) (w : List ℕ) (i at : ℕ) (c : Count) (vs : List ℕ) where
+  pub stretch-none : i ≤ length w → Stretch base w i i at c vs c vs
   unfolding plainly
-  stretch-none h = record { past = []; left = λ base. refl; on = omega arith; within = h; holds = λ lent bs k. rw append-nil k; long = refl }
+  stretch-none h = record { past = []; left = refl; on = omega arith; within = h; holds = λ lent bs k. rw append-nil k; long = refl }
 
-  -- Four bytes from byte `j` on.
-  module _ (j n : ℕ) (vs₁ : List ℕ) (t : Stretch w i j at c vs (Words n) vs₁) (h : j + 4 ≤ length w)
+  -- A byte, by the piece at byte `j`.
+  pub stretch-byte : (j : ℕ) (c₁ : Count) (vs₁ : List ℕ) → Stretch base w i j at c vs c₁ vs₁ → (e : code.Event) (b next : ℕ) → Cuts base w j e next → e ≡ Byte b
+      → (c₂ : Count) (vs₂ : List ℕ) → PushByte at b c₁ vs₁ c₂ vs₂ → length vs₂ ≡ length vs₁ → Stretch base w i next at c vs c₂ vs₂
+  unfolding plainly
+  stretch-byte j c₁ vs₁ t e b next k ee c₂ vs₂ p l =
+      let cut : Cut base w j (byte b) next = rw ee at k in
+      record {
+        past = t .past ++ (b ∷ []);
+        left = t .left ∙ rw (cut .is, plainly-append, append-assoc);
+        on = omega (arith, t .on, cut .on);
+        within = cut .within;
+        holds = λ lent bs h. rw (← append-assoc) (p .holds lent (bs ++ t .past) (t .holds lent bs h));
+        long = l ∙ t .long;
+      }
+
+  pub stretch-then : (j : ℕ) (c₁ : Count) (vs₁ : List ℕ) (k : ℕ) (c₂ : Count) (vs₂ : List ℕ) → Stretch base w i j at c vs c₁ vs₁ → Stretch base w j k at c₁ vs₁ c₂ vs₂ → Stretch base w i k at c vs c₂ vs₂
+  stretch-then j c₁ vs₁ k c₂ vs₂ t u =
+      record {
+        past = t .past ++ u .past;
+        left = t .left ∙ rw (u .left, plainly-append, append-assoc);
+        on = omega (arith, t .on, u .on);
+        within = u .within;
+        holds = λ lent bs h. rw (← append-assoc) (u .holds lent (bs ++ t .past) (t .holds lent bs h));
+        long = u .long ∙ t .long;
+      }
+
+  -- Four plain bytes from byte `j` on.
+  module _ (j n : ℕ) (vs₁ : List ℕ) (t : Stretch base w i j at c vs (Words n) vs₁) (h : j + 4 ≤ length w)
       (q : Quad (getD w j 0) (getD w (j + 1) 0) (getD w (j + 2) 0) (getD w (j + 3) 0)) where
     abbrev next : List ℕ
     next = getD w j 0 ∷ getD w (j + 1) 0 ∷ getD w (j + 2) 0 ∷ getD w (j + 3) 0 ∷ []
 
-    next-events : (base : ℕ) → events base w j ≡ plainly next ++ events base w (j + 4)
+    next-events : events base w j ≡ plainly next ++ events base w (j + 4)
     unfolding plainly
-    next-events base =
+    next-events =
         plain-event base w j (j + 1) refl (omega arith) (q .first)
         ∙ ap (λ (es : List Event). byte (getD w j 0) ∷ es)
         (plain-event base w (j + 1) (j + 2) (omega arith) (omega arith) (q .second)
@@ -155,11 +183,11 @@ module _ (w : List ℕ) (i at : ℕ) (c : Count) (vs : List ℕ) where
         ∙ ap (λ (es : List Event). byte (getD w (j + 2) 0) ∷ es) (plain-event base w (j + 3) (j + 4) (omega arith) (omega arith) (q .fourth))))
 
     pub stretch-four : n % 4 ≡ 0 → at + 1 + n / 4 < length vs₁
-        → Stretch w i (j + 4) at c vs (Words (n + 4)) (set vs₁ (at + 1 + n / 4) (word (getD w j 0) (getD w (j + 1) 0) (getD w (j + 2) 0) (getD w (j + 3) 0)))
+        → Stretch base w i (j + 4) at c vs (Words (n + 4)) (set vs₁ (at + 1 + n / 4) (word (getD w j 0) (getD w (j + 1) 0) (getD w (j + 2) 0) (getD w (j + 3) 0)))
     stretch-four m f =
         record {
           past = t .past ++ next;
-          left = λ base. t .left base ∙ rw (next-events base, plainly-append, append-assoc);
+          left = t .left ∙ rw (next-events, plainly-append, append-assoc);
           on = omega (arith, t .on);
           within = h;
           holds = λ lent bs k.
@@ -169,16 +197,16 @@ module _ (w : List ℕ) (i at : ℕ) (c : Count) (vs : List ℕ) where
         }
 
   -- The same, by how many words there are, as the code counts them.
-  pub stretch-first : i ≤ length w → (n : ℕ) → c ≡ Words n → Stretch w i (i + 4 * 0) at c vs (Words (n + 4 * 0)) vs
+  pub stretch-first : i ≤ length w → (n : ℕ) → c ≡ Words n → Stretch base w i (i + 4 * 0) at c vs (Words (n + 4 * 0)) vs
   stretch-first h n ec =
       let e : i + 4 * 0 ≡ i = omega arith in
       let f : n + 4 * 0 ≡ n = omega arith in
       rw (e, f, ← ec) (stretch-none h)
 
-  pub stretch-next : (n k : ℕ) (vs₁ : List ℕ) → Stretch w i (i + 4 * k) at c vs (Words (n + 4 * k)) vs₁ → i + 4 * k + 4 ≤ length w
+  pub stretch-next : (n k : ℕ) (vs₁ : List ℕ) → Stretch base w i (i + 4 * k) at c vs (Words (n + 4 * k)) vs₁ → i + 4 * k + 4 ≤ length w
       → Quad (getD w (i + 4 * k) 0) (getD w (i + 4 * k + 1) 0) (getD w (i + 4 * k + 2) 0) (getD w (i + 4 * k + 3) 0) → n % 4 ≡ 0 → at + 1 + n / 4 + k < length vs₁
       → (x : ℕ) → x ≡ word (getD w (i + 4 * k) 0) (getD w (i + 4 * k + 1) 0) (getD w (i + 4 * k + 2) 0) (getD w (i + 4 * k + 3) 0)
-      → Stretch w i (i + 4 * (k + 1)) at c vs (Words (n + 4 * (k + 1))) (set vs₁ (at + 1 + n / 4 + k) x)
+      → Stretch base w i (i + 4 * (k + 1)) at c vs (Words (n + 4 * (k + 1))) (set vs₁ (at + 1 + n / 4 + k) x)
   stretch-next n k vs₁ t h q m f x ex =
       let e : i + 4 * (k + 1) ≡ i + 4 * k + 4 = omega arith in
       let en : n + 4 * (k + 1) ≡ n + 4 * k + 4 = omega arith in
@@ -187,7 +215,7 @@ module _ (w : List ℕ) (i at : ℕ) (c : Count) (vs : List ℕ) where
 
 -- ---- a stretch as a part of decoding
 
-module _ (text tokens : List ℕ) (d at : ℕ) (w : List ℕ) (i j : ℕ) (s : Reading) (c : Count) (ns vs rs : List ℕ) (c′ : Count) (vs′ : List ℕ) (t : Stretch w i j at c vs c′ vs′) where
+module _ (text tokens : List ℕ) (d at base : ℕ) (w : List ℕ) (i j : ℕ) (s : Reading) (c : Count) (ns vs rs : List ℕ) (c′ : Count) (vs′ : List ℕ) (t : Stretch base w i j at c vs c′ vs′) where
   decodes-stretch : Decodes text tokens d (plainly (t .past)) at s c (memory ns vs rs) s c′ (memory ns vs′ rs)
   unfolding emitEvents
   decodes-stretch =
@@ -196,12 +224,12 @@ module _ (text tokens : List ℕ) (d at : ℕ) (w : List ℕ) (i j : ℕ) (s : R
         holds = λ lent bs h k. rw (plainly-bytes (t .past)) (t .holds lent bs k);
       }
 
-  pub decodes-past : (base : ℕ) (s₂ : Reading) (c₂ : Count) (m₂ : Memory) → Decodes text tokens d (events base w j) at s c′ (memory ns vs′ rs) s₂ c₂ m₂
+  pub decodes-past : (s₂ : Reading) (c₂ : Count) (m₂ : Memory) → Decodes text tokens d (events base w j) at s c′ (memory ns vs′ rs) s₂ c₂ m₂
       → Decodes text tokens d (events base w i) at s c (memory ns vs rs) s₂ c₂ m₂
-  decodes-past base s₂ c₂ m₂ f =
-      rw (t .left base) (decodes-then text tokens d at s c (memory ns vs rs) (plainly (t .past)) (events base w j) s c′ (memory ns vs′ rs) s₂ c₂ m₂ decodes-stretch f)
+  decodes-past s₂ c₂ m₂ f =
+      rw (t .left) (decodes-then text tokens d at s c (memory ns vs rs) (plainly (t .past)) (events base w j) s c′ (memory ns vs′ rs) s₂ c₂ m₂ decodes-stretch f)
 
-  pub walk-stretch : (base : ℕ) (total : List Event) (s₀ : Reading) (c₀ : Count) (m₀ : Memory) → Walk text tokens d at total s₀ c₀ m₀ (events base w i) s c (memory ns vs rs)
+  pub walk-stretch : (total : List Event) (s₀ : Reading) (c₀ : Count) (m₀ : Memory) → Walk text tokens d at total s₀ c₀ m₀ (events base w i) s c (memory ns vs rs)
       → Walk text tokens d at total s₀ c₀ m₀ (events base w j) s c′ (memory ns vs′ rs)
-  walk-stretch base total s₀ c₀ m₀ k =
-      walk-on text tokens d at total s₀ c₀ m₀ (events base w i) s c (memory ns vs rs) k (plainly (t .past)) (events base w j) s c′ (memory ns vs′ rs) (t .left base) decodes-stretch refl (t .long) refl
+  walk-stretch total s₀ c₀ m₀ k =
+      walk-on text tokens d at total s₀ c₀ m₀ (events base w i) s c (memory ns vs rs) k (plainly (t .past)) (events base w j) s c′ (memory ns vs′ rs) (t .left) decodes-stretch refl (t .long) refl

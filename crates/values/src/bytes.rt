@@ -1,28 +1,29 @@
 // The bytes of a string, four to a word, as they come.
 ghost use mathlib.Core.Path.{_≡_};
 ghost use mathlib.Core.Bool.{true};
-ghost use Prim.Native.Nat.{_+_, _*_, _/_, _%_, _≤_, _<_};
+ghost use Prim.Native.Nat.{ℕ, _+_, _*_, _/_, _%_, _≤_, _<_};
 ghost use lib.ListN.{length};
 ghost use Rattle.values.specs.declared.Count.the-variants.{Words};
-ghost use Rattle.values.specs.Fours.{unit, PutByte, PushByte};
+ghost use Rattle.values.specs.Fours.{joined, PutByte, PushByte};
 ghost use Rattle.values.specs.Plain.{Plain, Quad, word, Stretch};
 use crate::Count;
 
-// What the n-th byte counts in its word.
-fn unit(n: usize) -> u32
-    ensures { λ r. ⌜ r ≡ unit n ⌝ }
+// A word with its n-th byte, above those before it. What stood above is cut off.
+fn joined(n: usize, word: u32, b: u32) -> u32
+    requires { ⌜ b < 256 ⌝ }
+    ensures { λ r. ⌜ r ≡ joined n word b ⌝ }
 {
     let k = n % 4;
     if k == 0 {
-        return 1;
+        return b;
     }
     if k == 1 {
-        return 256;
+        return word % 256 + b * 256;
     }
     if k == 2 {
-        return 65536;
+        return word % 65536 + b * 65536;
     }
-    16777216
+    word % 16777216 + b * 16777216
 }
 
 // The n-th byte, in front of `room`.
@@ -34,8 +35,7 @@ fn put_byte(room: &mut [u32], n: usize, b: u32) -> Count
     if room.len() <= k {
         return Count::DontFit;
     }
-    let u = unit(n);
-    room[k] = room[k] % u + b * u;
+    room[k] = joined(n, room[k], b);
     Count::Words(n + 1)
 }
 
@@ -101,7 +101,7 @@ fn word(a: u8, b: u8, c: u8, e: u8) -> u32
 // how many words, at most `limit`.
 fn put_words(values: &mut [u32], at: usize, n: usize, w: &[u8], i: usize, limit: usize) -> usize
     requires { ⌜ (n % 4 ≡ 0) × (at + 1 + n / 4 + limit ≤ length (now values)) × (i + 4 * limit ≤ length (now w)) ⌝ }
-    ensures { λ r. ⌜ (r ≤ limit) × Stretch (now (w .entry)) i (i + 4 * r) at (Words n) (now (values .entry)) (Words (n + 4 * r)) (now (values .exit)) ⌝ }
+    ensures { λ r. ⌜ (r ≤ limit) × ((base : ℕ) → Stretch base (now (w .entry)) i (i + 4 * r) at (Words n) (now (values .entry)) (Words (n + 4 * r)) (now (values .exit))) ⌝ }
 {
     let first = at + 1 + n / 4;
     let mut t = 0;
@@ -133,7 +133,7 @@ fn least(a: usize, b: usize) -> usize
 // Where the bytes so far fill no whole words, and where there is no room, none.
 pub(crate) fn push_plain(values: &mut [u32], at: usize, count: Count, w: &[u8], i: usize) -> Filled
     requires { ⌜ i ≤ length (now w) ⌝ }
-    ensures { λ r. ⌜ Stretch (now (w .entry)) i (r .next) at count (now (values .entry)) (r .count) (now (values .exit)) ⌝ }
+    ensures { λ r. ⌜ ((base : ℕ) → Stretch base (now (w .entry)) i (r .next) at count (now (values .entry)) (r .count) (now (values .exit))) ⌝ }
 {
     match count {
         Count::Words(n) => {

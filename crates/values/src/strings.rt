@@ -11,6 +11,7 @@ ghost use Rattle.values.specs.Numbers.{option, Under};
 ghost use Rattle.definition.specs.Prog.{memory};
 ghost use Rattle.values.specs.Chars.{Standing, events};
 ghost use Rattle.values.specs.Decodes.{Decodes};
+ghost use Rattle.values.specs.Plain.{Stretch};
 ghost use Rattle.values.specs.Hex.{Digit, Turn, hexEvents};
 ghost use Rattle.values.specs.Inside.{insideOf};
 ghost use Rattle.values.specs.StringValue.{StringKept};
@@ -18,6 +19,7 @@ ghost use Rattle.values.specs.Pieces.{eventOf, Small, Cuts, Run, Slash, 
 use crate::Count;
 use crate::Stored;
 use crate::bytes;
+use crate::bytes::Filled;
 use crate::digit;
 use reading::Maybe;
 use reading::Reading;
@@ -281,7 +283,51 @@ fn step(
     }
 }
 
-// The characters between the quotes of a string token: stretches of plain bytes, and piece by piece what stands between them.
+// The bytes of the value from byte `i` of `w` on, up to the first report: how many there are then, and where it stands.
+fn decode_bytes(
+    values: &mut [u32],
+    at: usize,
+    count: Count,
+    w: &[u8],
+    base: usize,
+    i: usize,
+) -> Filled
+    requires { ⌜ (base + length (now w) < 4294967296) × (i ≤ length (now w)) ⌝ }
+    ensures { λ r. ⌜ Stretch base (now (w .entry)) i (r .next) at count (now (values .entry)) (r .count) (now (values .exit)) ⌝ }
+{
+    let first = bytes::push_plain(values, at, count, w, i);
+    let mut so_far = first.count;
+    let mut j = first.next;
+    while j < w.len() {
+        let p = piece_at(w, base, j);
+        let event = p.event;
+        match event {
+            Event::Byte(b) => {
+                let one = bytes::push_byte(values, at, so_far, b);
+                let more = bytes::push_plain(values, at, one, w, p.next);
+                so_far = more.count;
+                j = more.next;
+            }
+            Event::Report {
+                kind: _,
+                detail: _,
+                start: _,
+                end: _,
+            } => {
+                return Filled {
+                    count: so_far,
+                    next: j,
+                };
+            }
+        }
+    }
+    Filled {
+        count: so_far,
+        next: j,
+    }
+}
+
+// The characters between the quotes of a string token: bytes of the value, and what is reported between them.
 fn decode_pieces(
     d: u32,
     s: Decoded,
@@ -299,7 +345,7 @@ fn decode_pieces(
 {
     let reading = s.at;
     let none = s.count;
-    let first = bytes::push_plain(values, at, none, w, 0);
+    let first = decode_bytes(values, at, none, w, base, 0);
     let count = first.count;
     let mut so_far = Decoded { at: reading, count };
     let mut i = first.next;
@@ -309,7 +355,7 @@ fn decode_pieces(
         let one = step(d, so_far, text, tokens, nodes, values, reports, at, event);
         let then = one.at;
         let held = one.count;
-        let more = bytes::push_plain(values, at, held, w, p.next);
+        let more = decode_bytes(values, at, held, w, base, p.next);
         let count = more.count;
         so_far = Decoded { at: then, count };
         i = more.next;

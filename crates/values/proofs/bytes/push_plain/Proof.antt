@@ -9,10 +9,10 @@ enum-known-count : tie.Need-enum-known-count
 enum-known-count c = search needs
 
 returns : tie.Need-returns
-returns c = rw (c .before .before .count .given .1) (stretch-none _ _ _ _ _ (omega arith))
+returns c = rw (c .before .before .count .given .1) (λ base. stretch-none _ _ _ _ _ _ (omega arith))
 
 returns-2 : tie.Need-returns-2
-returns-2 c = rw (c .before .before .before .count .given .1) (stretch-none _ _ _ _ _ (omega arith))
+returns-2 c = rw (c .before .before .before .count .given .1) (λ base. stretch-none _ _ _ _ _ _ (omega arith))
 
 add-first : tie.Need-add-first
 add-first c = search needs
@@ -21,7 +21,7 @@ add-first-2 : tie.Need-add-first-2
 add-first-2 c = search needs
 
 returns-3 : tie.Need-returns-3
-returns-3 c = rw (c .before .before .before .before .count .given .1) (stretch-none _ _ _ _ _ (omega arith))
+returns-3 c = rw (c .before .before .before .before .count .given .1) (λ base. stretch-none _ _ _ _ _ _ (omega arith))
 
 sub-least : tie.Need-sub-least
 sub-least c = search needs
@@ -57,7 +57,7 @@ returns-4 : tie.Need-returns-4
 returns-4 c = rw (c .before .before .before .before .before .before .before .before .before .count .given .1) (c .before .before .put-words .ensures .1)
 
 returns-5 : tie.Need-returns-5
-returns-5 c = stretch-none _ _ _ _ _ (omega arith)
+returns-5 c = λ base. stretch-none _ _ _ _ _ _ (omega arith)
 
 pub push-plain-spec : {M : Type 1} → statement M
 push-plain-spec =

@@ -1,6 +1,7 @@
 -- `put_words` meets its contract: the words so far are a stretch of plain bytes.
-use mathlib.Core.Path.{refl}
-use Prim.Native.Nat.{_+_, _-_, _*_, _≤_}
+use mathlib.Core.Path.{_≡_, refl}
+use lib.ListN.{length, length-set}
+use Prim.Native.Nat.{ℕ, _+_, _-_, _*_, _≤_}
 use Rattle.values.specs.declared.Count.the-variants.{Words}
 use Rattle.values.specs.Plain.{Stretch, unless, stretch-first, stretch-next}
 use borrow.Author.Needs.{needs}
@@ -13,7 +14,7 @@ use Rattle.values.proofs.bytes.all_plain.Reads as all-plain-reads
 use Rattle.values.proofs.bytes.word.Reads as word-reads
 
 abbrev Inv-loop : tie.InvT-loop
-Inv-loop values₀ at n w i limit first t₀ values t = (t ≤ limit) × Stretch w i (i + 4 * t) at (Words n) values₀ (Words (n + 4 * t)) values
+Inv-loop values₀ at n w i limit first t₀ values t = (t ≤ limit) × (length values ≡ length values₀) × ((base : ℕ) → Stretch base w i (i + 4 * t) at (Words n) values₀ (Words (n + 4 * t)) values)
 
 abbrev μ-loop : tie.MeasureT-loop
 μ-loop values₀ at n w i limit first t₀ values t = limit - t
@@ -25,7 +26,7 @@ add-first-2 : tie.Need-add-first-2 Inv-loop μ-loop
 add-first-2 c = search needs
 
 loop-holds : tie.Need-loop-holds Inv-loop μ-loop
-loop-holds c = (omega arith, stretch-first _ _ _ _ _ (omega arith) _ refl)
+loop-holds c = (omega arith, refl, λ base. stretch-first _ _ _ _ _ _ (omega arith) _ refl)
 
 mul-j : tie.Need-mul-j Inv-loop μ-loop
 mul-j c = search needs
@@ -82,7 +83,7 @@ loop-less : tie.Need-loop-less Inv-loop μ-loop
 loop-less c = search needs
 
 loop-again : tie.Need-loop-again Inv-loop μ-loop
-loop-again c = (omega arith, stretch-next _ _ _ _ _ _ _ _ (c .before .before .before .before .before .before .before .before .loop .inv .1) (omega arith) (c .before .before .all-plain .ensures (unless _ (c .before .if1 .left))) (c .before .before .before .before .before .before .before .before .before .before .before .pre .0) (omega (arith, c .before .before .before .before .before .before .before .before .loop .inv .1 .long)) _ (c .word .ensures))
+loop-again c = (omega arith, simp length-set (c .before .before .before .before .before .before .before .before .loop .inv .1), λ base. stretch-next base _ _ _ _ _ _ _ _ (c .before .before .before .before .before .before .before .before .loop .inv .2 base) (omega arith) (c .before .before .all-plain .ensures (unless _ (c .before .if1 .left))) (c .before .before .before .before .before .before .before .before .before .before .before .pre .0) (omega arith) _ (c .word .ensures))
 
 same-length-2 : tie.Need-same-length-2 Inv-loop μ-loop
 same-length-2 c = search needs

@@ -17,8 +17,8 @@ Inv-loop d text tokens nodes₀ values₀ reports₀ at w base so-far₀ i₀ no
 abbrev μ-loop : tie.MeasureT-loop
 μ-loop d text tokens nodes₀ values₀ reports₀ at w base so-far₀ i₀ nodes values reports so-far i = length w - i
 
-push-plain-requires : tie.Need-push-plain-requires Inv-loop μ-loop
-push-plain-requires c κs = search needs
+decode-bytes-requires : tie.Need-decode-bytes-requires Inv-loop μ-loop
+decode-bytes-requires c κs = search needs
 
 loop-holds : tie.Need-loop-holds Inv-loop μ-loop
 loop-holds c = walk-first _ _ _ _ _ _ _ _
@@ -29,26 +29,26 @@ piece-at-requires c κs = search needs
 step-requires : tie.Need-step-requires Inv-loop μ-loop
 step-requires c κs = c .before .before .before .piece-at .ensures .small
 
-push-plain-requires-2 : tie.Need-push-plain-requires-2 Inv-loop μ-loop
-push-plain-requires-2 c κs = c .before .before .before .before .before .before .before .before .before .before .before .before .piece-at .ensures .within
+decode-bytes-requires-2 : tie.Need-decode-bytes-requires-2 Inv-loop μ-loop
+decode-bytes-requires-2 c κs = (c .before .before .before .before .before .before .before .before .before .before .before .before .before .before .before .before .before .before .before .before .before .before .before .before .before .before .pre, c .before .before .before .before .before .before .before .before .before .before .before .before .piece-at .ensures .within)
 
 loop-less : tie.Need-loop-less Inv-loop μ-loop
-loop-less c = omega (arith, c .before .before .before .before .before .before .before .before .before .before .before .before .before .before .before .piece-at .ensures .on, c .before .before .before .before .before .before .before .before .before .before .before .before .before .before .before .piece-at .ensures .within, c .before .before .push-plain2 .ensures .on, c .before .before .push-plain2 .ensures .within)
+loop-less c = omega (arith, c .before .before .before .before .before .before .before .before .before .before .before .before .before .before .before .piece-at .ensures .on, c .before .before .before .before .before .before .before .before .before .before .before .before .before .before .before .piece-at .ensures .within, c .before .before .decode-bytes2 .ensures .on, c .before .before .decode-bytes2 .ensures .within)
 
 loop-again : tie.Need-loop-again Inv-loop μ-loop
-loop-again c = walk-stretch _ _ _ _ _ _ _ _ _ _ _ _ _ _ (c .before .before .push-plain2 .ensures) _ _ _ _ _ (walk-on _ _ _ _ _ _ _ _ _ _ _ _ (c .before .before .before .before .before .before .before .before .before .before .before .before .before .before .before .before .before .loop .inv) _ _ _ _ _ (c .before .before .before .before .before .before .before .before .before .before .before .before .before .before .before .piece-at .ensures .is) (c .before .before .before .before .before .before .before .before .before .before .before .step .ensures) (c .before .before .before .before .before .before .before .before .before .before .nodes .given) (c .before .before .before .before .before .before .before .before .values2 .given) (c .before .before .before .before .before .before .reports .given))
+loop-again c = walk-stretch _ _ _ _ _ _ _ _ _ _ _ _ _ _ _ (c .before .before .decode-bytes2 .ensures) _ _ _ _ (walk-on _ _ _ _ _ _ _ _ _ _ _ _ (c .before .before .before .before .before .before .before .before .before .before .before .before .before .before .before .before .before .loop .inv) _ _ _ _ _ (c .before .before .before .before .before .before .before .before .before .before .before .before .before .before .before .piece-at .ensures .is) (c .before .before .before .before .before .before .before .before .before .before .before .step .ensures) (c .before .before .before .before .before .before .before .before .before .before .nodes .given) (c .before .before .before .before .before .before .before .before .values2 .given) (c .before .before .before .before .before .before .reports .given))
 
 same-length : tie.Need-same-length Inv-loop μ-loop
 same-length c = c .before .loop .inv .nodes
 
 same-length-2 : tie.Need-same-length-2 Inv-loop μ-loop
-same-length-2 c = c .before .loop .inv .values ∙ c .before .before .before .before .push-plain .ensures .long
+same-length-2 c = c .before .loop .inv .values ∙ c .before .before .before .before .decode-bytes .ensures .long
 
 same-length-3 : tie.Need-same-length-3 Inv-loop μ-loop
 same-length-3 c = c .before .loop .inv .reports
 
 returns : tie.Need-returns Inv-loop μ-loop
-returns c = decodes-past _ _ _ _ _ _ _ _ _ _ _ _ _ _ (c .before .before .before .before .push-plain .ensures) _ _ _ _ (walk-last _ _ _ _ _ _ _ _ _ _ _ _ (c .before .loop .inv) (events-over _ _ _ (c .loop-test .left)))
+returns c = decodes-past _ _ _ _ _ _ _ _ _ _ _ _ _ _ _ (c .before .before .before .before .decode-bytes .ensures) _ _ _ (walk-last _ _ _ _ _ _ _ _ _ _ _ _ (c .before .loop .inv) (events-over _ _ _ (c .loop-test .left)))
 
 pub decode-pieces-spec : {M : Type 1} → statement M
 decode-pieces-spec =
@@ -56,11 +56,11 @@ decode-pieces-spec =
     (tie.spec
     Inv-loop
     μ-loop
-    push-plain-requires
+    decode-bytes-requires
     loop-holds
     piece-at-requires
     step-requires
-    push-plain-requires-2
+    decode-bytes-requires-2
     loop-less
     loop-again
     same-length

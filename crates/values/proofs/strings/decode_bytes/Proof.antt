@@ -1,0 +1,74 @@
+-- `decode_bytes` meets its contract: the bytes so far are a stretch.
+use mathlib.Core.Path.{_∙_}
+use Prim.Native.Nat.{_-_}
+use lib.ListN.{length}
+use Rattle.values.specs.Plain.{Stretch, stretch-none, stretch-byte, stretch-then}
+use borrow.Author.Needs.{needs}
+use native.Mathlib.Omega.{arith}
+use Rattle.values.proofs.strings.decode_bytes.Statement.{statement}
+use Rattle.values.proofs.strings.decode_bytes.Tie as tie
+
+abbrev Inv-loop : tie.InvT-loop
+Inv-loop values₀ at w base i so-far₀ j₀ values so-far j = Stretch base w j₀ j at so-far₀ values₀ so-far values
+
+abbrev μ-loop : tie.MeasureT-loop
+μ-loop values₀ at w base i so-far₀ j₀ values so-far j = length w - j
+
+push-plain-requires : tie.Need-push-plain-requires Inv-loop μ-loop
+push-plain-requires c κs = search needs
+
+loop-holds : tie.Need-loop-holds Inv-loop μ-loop
+loop-holds c = stretch-none _ _ _ _ _ _ (c .before .before .push-plain .ensures 0 .within)
+
+piece-at-requires : tie.Need-piece-at-requires Inv-loop μ-loop
+piece-at-requires c κs = search needs
+
+enum-known-event : tie.Need-enum-known-event Inv-loop μ-loop
+enum-known-event c = search needs
+
+push-byte-requires : tie.Need-push-byte-requires Inv-loop μ-loop
+push-byte-requires c κs = rw (c .before .before .event .given .1) at (c .before .before .before .before .piece-at .ensures .small)
+
+push-plain-requires-2 : tie.Need-push-plain-requires-2 Inv-loop μ-loop
+push-plain-requires-2 c κs = c .before .before .before .before .before .before .before .before .piece-at .ensures .within
+
+loop-less : tie.Need-loop-less Inv-loop μ-loop
+loop-less c = omega (arith, c .before .before .before .before .before .before .before .before .before .before .before .piece-at .ensures .on, c .before .before .before .before .before .before .before .before .before .before .before .piece-at .ensures .within, c .before .before .push-plain2 .ensures 0 .on, c .before .before .push-plain2 .ensures 0 .within)
+
+loop-again : tie.Need-loop-again Inv-loop μ-loop
+loop-again c = stretch-then _ _ _ _ _ _ _ _ _ _ _ _ (stretch-byte _ _ _ _ _ _ _ _ _ (c .before .before .before .before .before .before .before .before .before .before .before .before .before .loop .inv) _ _ _ (c .before .before .before .before .before .before .before .before .before .before .before .piece-at .ensures) (c .before .before .before .before .before .before .before .before .before .event .given .1) _ _ (c .before .before .before .before .before .before .push-byte .ensures) (c .before .before .before .before .before .values2 .given)) (c .before .before .push-plain2 .ensures _)
+
+enum-told : tie.Need-enum-told Inv-loop μ-loop
+enum-told c = search needs
+
+same-length : tie.Need-same-length Inv-loop μ-loop
+same-length c = c .before .before .before .before .loop .inv .long ∙ c .before .before .before .before .before .before .before .push-plain .ensures 0 .long
+
+returns : tie.Need-returns Inv-loop μ-loop
+returns c = stretch-then _ _ _ _ _ _ _ _ _ _ _ _ (c .before .before .before .before .before .before .before .push-plain .ensures _) (c .before .before .before .before .loop .inv)
+
+same-length-2 : tie.Need-same-length-2 Inv-loop μ-loop
+same-length-2 c = c .before .loop .inv .long ∙ c .before .before .before .before .push-plain .ensures 0 .long
+
+returns-2 : tie.Need-returns-2 Inv-loop μ-loop
+returns-2 c = stretch-then _ _ _ _ _ _ _ _ _ _ _ _ (c .before .before .before .before .push-plain .ensures _) (c .before .loop .inv)
+
+pub decode-bytes-spec : {M : Type 1} → statement M
+decode-bytes-spec =
+    tie.close
+    (tie.spec
+    Inv-loop
+    μ-loop
+    push-plain-requires
+    loop-holds
+    piece-at-requires
+    enum-known-event
+    push-byte-requires
+    push-plain-requires-2
+    loop-less
+    loop-again
+    enum-told
+    same-length
+    returns
+    same-length-2
+    returns-2)
