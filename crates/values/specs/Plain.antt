@@ -221,7 +221,7 @@ module _ (text tokens : List ℕ) (d at base : ℕ) (w : List ℕ) (i j : ℕ) (
   decodes-stretch =
       record {
         does = λ lent. rw (plainly-silent (t .past)) gives;
-        holds = λ lent bs h k. rw (plainly-bytes (t .past)) (t .holds lent bs k);
+        holds = λ right lent bs h k. rw (plainly-bytes (t .past)) (t .holds lent bs k);
       }
 
   pub decodes-past : (s₂ : Reading) (c₂ : Count) (m₂ : Memory) → Decodes text tokens d (events base w j) at s c′ (memory ns vs′ rs) s₂ c₂ m₂
