@@ -94,6 +94,9 @@ module _ (text tokens : List ℕ) (i : ℕ) where
     pub first-low : firstName text tokens i ≤ i
     first-low = rw start (first-upto i 0 (omega arith))
 
+    pub first-small : (first n : ℕ) → first ≡ firstName text tokens i → i < n → first < n
+    first-small first n e l = let z = first-low in omega arith
+
     -- Where no token before it is.
     first-alone : ((j : ℕ) → j < i → matches text tokens i j ≡ true → ⊥) → (d n : ℕ) → n + d ≡ i → fromAt n ≡ i
     first-alone none zero n e =

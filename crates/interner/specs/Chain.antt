@@ -18,6 +18,11 @@ use Rattle.interner.specs.Hash.{hash}
 unfoldable pub nameAt : List ℕ → ℕ → Bool
 nameAt tokens j = isName (kindAt tokens j)
 
+-- What `is_name` answers of the kind of token `j`.
+pub name-is : (tokens : List ℕ) (j k : ℕ) (t b : Bool) → k ≡ kindAt tokens j → t ≡ isName k → t ≡ b → nameAt tokens j ≡ b
+unfolding nameAt
+name-is tokens j k t b e f g = rw (← e, ← f) g
+
 module _ (text tokens : List ℕ) where
   -- The bucket of token `j`.
   abbrev pub bucket : ℕ → ℕ
@@ -105,7 +110,7 @@ module _ (text tokens : List ℕ) where
             (record {
               low = let l = last-low (bucket i) j in let k = p .low in omega arith;
               here = last-again (bucket i) j;
-              none = none-now
+              none = none-now;
             })
           where
             none-now : (k : ℕ) → lastWith (bucket i) j ≤ k → k < i → matches text tokens i k ≡ true → ⊥

@@ -8,7 +8,7 @@ use lib.Seq.{drop-cons}
 
 -- How many buckets there are.
 abbrev pub buckets : ℕ
-buckets = 16384
+buckets = 8192
 
 -- The bucket after more bytes.
 unfoldable pub hashFrom : ℕ → List ℕ → ℕ

@@ -4,10 +4,11 @@ use mathlib.Core.Bool.{Bool, true, false, cond, _&&_}
 use mathlib.Core.List.{List, [], _∷_}
 use Prim.Native.Nat.{ℕ, zero, suc, _+_, _≤_, _<_}
 use native.Mathlib.Omega.{arith}
+use native.Mathlib.Numerals.{add-one}
 use borrow.Author.Tests.{le-leb, ltb-true, ltb-false}
 use lib.Dec.{eqb, leb, ltb}
-use lib.ListN.{length, getD, take, drop, List·getD-eq-default}
-use lib.Seq.{slice, take-take}
+use lib.ListN.{length, getD, set, take, drop, List·getD-eq-default}
+use lib.Seq.{slice, take-take, take-suc, take-suc-set, take-length}
 use Rattle.words.specs.Token
 use Rattle.words.specs.Words.{tokenWord, tokenKind, tokenEnd}
 use Rattle.literals.specs.Spelling.{span, wordAt, tokenStart, covered, spelling, alike, firstFrom, firstAlike}
@@ -26,6 +27,13 @@ inside-all tokens n h i = go (ltb i (length tokens)) refl
         let l = ltb-true i (length tokens) e in
         rw (within tokens i (tokenWord Token.Eof 0) 0 l) (h i l)
     go false e = rw (List·getD-eq-default tokens (tokenWord Token.Eof 0) {n = i} (ltb-false i (length tokens) e), last-end) (omega arith)
+
+-- One byte more is copied.
+pub copied : (source text : List ℕ) (i : ℕ) → i < length text → i < length source → take i source ≡ take i text → take (i + 1) (set source i (getD text i 0)) ≡ take (i + 1) text
+copied source text i l m e = rw (add-one i, take-suc-set source i (getD text i 0) m, take-suc text i 0 l, e)
+
+pub all-copied : (source text : List ℕ) (i : ℕ) → i ≡ length text → take i source ≡ take i text → take (length text) source ≡ text
+all-copied source text i h e = rw (← h) (e ∙ (rw h (take-length text)))
 
 module _ (source text : List ℕ) (long : length text ≤ length source) (begins : take (length text) source ≡ text) where
   slice-same : (f t : ℕ) → t ≤ length text → slice f t source ≡ slice f t text

@@ -1,8 +1,13 @@
 // A source is a copy of the text with a table of its names behind it: the parser asks of each name which token was the
 // first to be spelled so, and a table made in one pass spares it a look at all tokens for each.
 ghost use mathlib.Core.Path.{_≡_};
-ghost use Rattle.reading.specs.Source.{isTold, firstOf};
+ghost use mathlib.Core.Bool.{true};
+ghost use Prim.Native.Nat.{_≤_};
+ghost use lib.ListN.{length, take};
+ghost use Rattle.reading.specs.Source.{isTold, firstOf, Annotates};
+ghost use Rattle.interner.specs.Same.{Inside};
 
+mod chains;
 mod table;
 
 // Whether there is a table, and token `i` is a name of this kind that it tells of.
@@ -30,4 +35,50 @@ pub fn first_of(source: &[u8], tokens: &[u32], kind: u32, i: u32) -> usize
         return table::get(source, n);
     }
     spellings::first_alike(source, tokens, kind, i)
+}
+
+// Whether all tokens end at `n` or before it.
+fn ends_inside(tokens: &[u32], n: usize) -> bool
+    ensures { λ r. ⌜ (r ≡ true → Inside (now (tokens .entry)) n) ⌝ }
+{
+    let mut i = 0;
+    while i < tokens.len() {
+        let end = words::token_end(tokens[i]) as usize;
+        if n < end {
+            return false;
+        }
+        i += 1;
+    }
+    true
+}
+
+// The source begins with the text.
+fn copy(text: &[u8], source: &mut [u8])
+    requires { ⌜ length (now text) ≤ length (now source) ⌝ }
+    ensures { λ _. ⌜ take (length (now (text .entry))) (now (source .exit)) ≡ now (text .entry) ⌝ }
+{
+    let mut i = 0;
+    while i < text.len() {
+        source[i] = text[i];
+        i += 1;
+    }
+}
+
+// The source of a text and its tokens: the text, and the table of its names. Where it answers false there is none, since
+// the source has another length than a source has, the text is longer than any, or a token ends past it.
+pub fn annotate(text: &[u8], tokens: &[u32], source: &mut [u8]) -> bool
+    ensures { λ r. ⌜ (r ≡ true → Annotates (now (source .exit)) (now (text .entry)) (now (tokens .entry))) ⌝ }
+{
+    if source.len() != table::LENGTH {
+        return false;
+    }
+    if table::START < text.len() {
+        return false;
+    }
+    if ends_inside(tokens, text.len()) {
+        copy(text, source);
+        chains::tell(text, tokens, source);
+        return true;
+    }
+    false
 }

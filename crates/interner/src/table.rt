@@ -5,6 +5,7 @@ ghost use lib.ListN.{length, getD};
 ghost use Rattle.words.specs.Words.{tokenKind};
 ghost use Rattle.literals.specs.Spelling.{wordAt};
 ghost use Rattle.reading.specs.Source.{entry, isName};
+ghost use Rattle.interner.specs.Table.{sourceLength, written};
 use words::token;
 
 // No text has more bytes, so the table begins there.
@@ -12,6 +13,9 @@ pub const START: usize = 65536;
 
 // Tokens from this one on are not in the table.
 pub const ENTRIES: usize = 65536;
+
+// The bytes of a source: room for the text, and for the table.
+pub const LENGTH: usize = 196608;
 
 // The kind of a token; past the words stands an Eof.
 pub fn kind_at(tokens: &[u32], i: usize) -> u32
@@ -55,4 +59,14 @@ pub fn get(source: &[u8], i: usize) -> usize
 {
     let at = START + 2 * i;
     byte(source, at) + 256 * byte(source, at + 1)
+}
+
+// The table is told of token `i`.
+pub fn put(source: &mut [u8], i: usize, first: usize)
+    requires { ⌜ (length (now source) ≡ sourceLength) × (i < 65536) × (first < 65536) ⌝ }
+    ensures { λ _. ⌜ now (source .exit) ≡ written (now (source .entry)) i first ⌝ }
+{
+    let at = START + 2 * i;
+    source[at] = (first % 256) as u8;
+    source[at + 1] = (first / 256) as u8;
 }
