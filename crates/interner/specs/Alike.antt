@@ -1,15 +1,14 @@
 -- Laws of names that are spelled alike, and of the first of them.
-use mathlib.Core.Path.{_≡_, refl, sym, _∙_, ap, ap₂}
-use mathlib.Core.Bool.{Bool, true, false, _&&_, true≢false, false≢true}
+use mathlib.Core.Path.{_≡_, refl, sym, _∙_, ap₂}
+use mathlib.Core.Bool.{Bool, true, false, _&&_, false≢true}
 use mathlib.Core.List.{List, [], _∷_}
 use Prim.Native.Nat.{ℕ, zero, suc, _+_, _≤_, _<_}
 use native.Mathlib.Omega.{arith}
-use native.Mathlib.Nat.{add-zero}
 use borrow.Author.Tests.{eq-eqb, eqb-true}
 use lib.Dec.{eqb}
-use lib.ListN.{length, drop}
+use lib.ListN.{length}
 use Rattle.lexer.specs.Lex.{spellingOf}
-use Rattle.literals.specs.Spelling.{wordAt, tokenStart, spelling, alike, firstAlike}
+use Rattle.literals.specs.Spelling.{tokenStart, spelling, alike, firstAlike}
 use Rattle.spellings.specs.Spelled.{spelled}
 use Rattle.spellings.specs.Names.{from, first-here, first-on}
 use Rattle.interner.specs.Told.{kindAt}

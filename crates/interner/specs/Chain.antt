@@ -1,13 +1,12 @@
 -- The names of a bucket, newest first: the newest, then for each the one before it.
 use mathlib.Core.Path.{_≡_, refl, sym, _∙_, ap}
-use mathlib.Core.Bool.{Bool, true, false, cond, _&&_, true≢false, false≢true}
-use mathlib.Core.List.{List, [], _∷_}
+use mathlib.Core.Bool.{Bool, true, false, cond, _&&_, true≢false}
+use mathlib.Core.List.{List}
 use Prim.Native.Nat.{ℕ, zero, suc, _+_, _≤_, _<_}
 use native.Mathlib.Omega.{arith}
 use borrow.Author.Tests.{eq-eqb, eqb-true, eqb-false, ltb-true, ltb-false}
 use lib.Dec.{eqb, ltb}
-use lib.ListN.{length, getD}
-use Rattle.words.specs.Token
+use lib.ListN.{length}
 use Rattle.literals.specs.Spelling.{spelling}
 use Rattle.reading.specs.Source.{isName}
 use Rattle.interner.specs.Told.{kindAt}

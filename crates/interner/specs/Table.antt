@@ -1,15 +1,14 @@
 -- The table while it is filled: what was written of each name so far is right.
 use mathlib.Core.Path.{_≡_, refl, sym, _∙_, ap}
-use mathlib.Core.Bool.{Bool, true, false, cond, _&&_, _||_, true≢false, false≢true}
-use mathlib.Core.List.{List, [], _∷_}
-use Prim.Native.Nat.{ℕ, zero, suc, _+_, _*_, _/_, _%_, _≤_, _<_}
+use mathlib.Core.Bool.{Bool, true, false, cond, _&&_, true≢false}
+use mathlib.Core.List.{List}
+use Prim.Native.Nat.{ℕ, _+_, _*_, _/_, _%_, _≤_, _<_}
 use native.Mathlib.Omega.{arith}
-use borrow.Author.Tests.{eq-eqb, eqb-true, eqb-false, lt-ltb, ltb-true, ltb-false}
+use borrow.Author.Tests.{eqb-true, eqb-false, ltb-true, ltb-false}
 use lib.Dec.{eqb, ltb}
 use lib.ListN.{length, getD, set, take, length-set}
 use lib.Seq.{getD-set-same, getD-set-other, take-set-le}
-use Rattle.words.specs.Token
-use Rattle.literals.specs.Spelling.{wordAt, spelling, firstAlike}
+use Rattle.literals.specs.Spelling.{firstAlike}
 use Rattle.reading.specs.Source.{tableStart, tableEntries, entry, isName, isTold, firstOf, Annotates}
 use Rattle.interner.specs.Told.{kindAt, kind-past}
 use Rattle.interner.specs.Same.{Inside, spelling-same, firsts-same}

@@ -1,5 +1,4 @@
 -- `ends_inside` meets its contract: all tokens before the one that is looked at end there.
-use mathlib.Core.Path.{_≡_}
 use mathlib.Core.Bool.{false≢true}
 use Prim.Native.Nat.{ℕ, _-_, _≤_, _<_}
 use native.Mathlib.Omega.{arith}
