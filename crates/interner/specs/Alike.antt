@@ -11,7 +11,7 @@ use Rattle.lexer.specs.Lex.{spellingOf}
 use Rattle.literals.specs.Spelling.{tokenStart, spelling, alike, firstAlike}
 use Rattle.spellings.specs.Spelled.{spelled}
 use Rattle.spellings.specs.Names.{from, first-here, first-on}
-use Rattle.interner.specs.Told.{kindAt}
+use Rattle.spellings.specs.Names.{kindAt}
 
 pub both : (a b : Bool) → (a && b) ≡ true → (a ≡ true) × (b ≡ true)
 both true b e = (refl, e)

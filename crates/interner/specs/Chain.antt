@@ -9,7 +9,7 @@ use lib.Dec.{eqb, ltb}
 use lib.ListN.{length}
 use Rattle.literals.specs.Spelling.{spelling}
 use Rattle.reading.specs.Source.{isName}
-use Rattle.interner.specs.Told.{kindAt}
+use Rattle.spellings.specs.Names.{kindAt}
 use Rattle.interner.specs.Alike.{both, matches, same-kind, same-spelling, firstName, first-itself}
 use Rattle.interner.specs.Hash.{hash}
 

@@ -8,9 +8,9 @@ use borrow.Author.Tests.{eqb-true, eqb-false, ltb-true, ltb-false}
 use lib.Dec.{eqb, ltb}
 use lib.ListN.{length, getD, set, take, length-set}
 use lib.Seq.{getD-set-same, getD-set-other, take-set-le}
-use Rattle.literals.specs.Spelling.{firstAlike}
-use Rattle.reading.specs.Source.{tableStart, tableEntries, entry, isName, isTold, firstOf, Annotates}
-use Rattle.interner.specs.Told.{kindAt, kind-past}
+use Rattle.literals.specs.Spelling.{spelling, firstAlike}
+use Rattle.reading.specs.Source.{tableStart, tableEntries, entry, isName, isTold, firstOf, Right}
+use Rattle.spellings.specs.Names.{kindAt, kind-past}
 use Rattle.interner.specs.Same.{Inside, spelling-same, firsts-same}
 use Rattle.interner.specs.Alike.{both, firstName}
 use Rattle.interner.specs.Chain.{nameAt}
@@ -18,6 +18,12 @@ use Rattle.interner.specs.Chain.{nameAt}
 -- A source has room for the longest text, and for two bytes of each token that the table tells of.
 abbrev pub sourceLength : ℕ
 sourceLength = 196608
+
+-- A source stands for a text: tokens are spelled alike in both, so the same ones are the first, and its table is right.
+pub record Annotates (source text tokens : List ℕ) : Type 0 where
+  pub spells : (i : ℕ) → spelling source tokens i ≡ spelling text tokens i
+  pub firsts : (kind i : ℕ) → firstAlike source tokens kind i ≡ firstAlike text tokens kind i
+  pub right : Right source tokens
 
 unfoldable pub written : List ℕ → ℕ → ℕ → List ℕ
 written source i first = set (set source (tableStart + 2 * i) (first % 256)) (tableStart + 2 * i + 1) (first / 256)
@@ -114,10 +120,13 @@ module _ (text tokens source : List ℕ) where
   -- The whole table: the source stands for the text.
   pub annotates : Inside tokens (length text) → Table text tokens source tableEntries → Annotates source text tokens
   unfolding firstOf isTold nameAt
-  annotates inside t = record { spells = spelling-same source text long (t .begins) tokens inside; names = names }
+  annotates inside t = record { spells = spelling-same source text long (t .begins) tokens inside; firsts = firsts; right = λ kind i. names kind i ∙ sym (firsts kind i) }
     where
       long : length text ≤ length source
       long = let l = t .long in let f = t .fits in omega arith
+
+      firsts : (kind i : ℕ) → firstAlike source tokens kind i ≡ firstAlike text tokens kind i
+      firsts = firsts-same source text long (t .begins) tokens inside
 
       names : (kind i : ℕ) → firstOf source tokens kind i ≡ firstAlike text tokens kind i
       names kind i = go (isTold source tokens kind i) refl
@@ -132,4 +141,4 @@ module _ (text tokens source : List ℕ) where
 
           go : (b : Bool) → isTold source tokens kind i ≡ b → cond b (entry source i) (firstAlike source tokens kind i) ≡ firstAlike text tokens kind i
           go true e = told e
-          go false e = firsts-same source text long (t .begins) tokens inside kind i
+          go false e = firsts kind i

@@ -1,26 +1,14 @@
 -- Laws of what the table tells of.
-use mathlib.Core.Path.{_≡_, refl, _∙_, ap}
+use mathlib.Core.Path.{_≡_, refl}
 use mathlib.Core.Bool.{Bool, true, false, _&&_, false≢true}
 use mathlib.Core.List.{List}
 use Prim.Native.Nat.{ℕ, _≤_, _<_}
 use borrow.Author.Tests.{lt-ltb, le-ltb, ltb-true}
 use lib.Dec.{eqb, ltb}
-use lib.ListN.{length, getD, List·getD-eq-default}
-use Rattle.words.specs.Token
-use Rattle.words.specs.Words.{tokenWord, tokenKind, pack, high}
-use Rattle.literals.specs.Spelling.{wordAt, firstAlike}
-use Rattle.spellings.specs.Spelled.{within}
+use lib.ListN.{length}
+use Rattle.literals.specs.Spelling.{firstAlike}
+use Rattle.spellings.specs.Names.{kindAt}
 use Rattle.reading.specs.Source.{tableStart, tableEntries, entry, isName, isTold, firstOf}
-
-abbrev pub kindAt : List ℕ → ℕ → ℕ
-kindAt tokens i = tokenKind (wordAt tokens i)
-
-pub kind-past : (tokens : List ℕ) (i : ℕ) → length tokens ≤ i → Token.Eof ≡ kindAt tokens i
-unfolding pack high
-kind-past tokens i h = rw (List·getD-eq-default tokens (tokenWord Token.Eof 0) {n = i} h)
-
-pub kind-within : (tokens : List ℕ) (i k : ℕ) → i < length tokens → k ≡ tokenKind (getD tokens i 0) → k ≡ kindAt tokens i
-kind-within tokens i k h e = e ∙ ap tokenKind (within tokens i 0 (tokenWord Token.Eof 0) h)
 
 module _ (source tokens : List ℕ) (kind i : ℕ) where
   pub told-none : length source ≤ tableStart → false ≡ isTold source tokens kind i

@@ -48,7 +48,7 @@ fn search(text: &[u8], tokens: &[u32], source: &[u8], links: &[u16], head: usize
     requires { ⌜ head ≡ lastWith (now text) (now tokens) (bucket (now text) (now tokens) i) i ⌝ }
     ensures { λ r. ⌜ r ≡ firstName (now (text .entry)) (now (tokens .entry)) i ⌝ }
 {
-    let kind = table::kind_at(tokens, i);
+    let kind = spellings::kind_at(tokens, i);
     let name = lexer::spelling(text, tokens, i);
     let mut c = head;
     while 0 < c {
@@ -95,7 +95,7 @@ fn step(
     requires { ⌜ State (now text) (now tokens) (now source) (now heads) (now links) i ⌝ }
     ensures { λ _. ⌜ State (now (text .entry)) (now (tokens .entry)) (now (source .exit)) (now (heads .exit)) (now (links .exit)) (i + 1) ⌝ }
 {
-    if table::is_name(table::kind_at(tokens, i)) {
+    if table::is_name(spellings::kind_at(tokens, i)) {
         add(text, tokens, source, heads, links, i);
     }
 }
@@ -126,7 +126,7 @@ fn last(text: &[u8], tokens: &[u32], source: &mut [u8])
     requires { ⌜ Table (now text) (now tokens) (now source) 65535 ⌝ }
     ensures { λ _. ⌜ Table (now (text .entry)) (now (tokens .entry)) (now (source .exit)) tableEntries ⌝ }
 {
-    let kind = table::kind_at(tokens, CHAINED);
+    let kind = spellings::kind_at(tokens, CHAINED);
     if table::is_name(kind) {
         let first = spellings::first_alike(text, tokens, kind, CHAINED as u32);
         table::put(source, CHAINED, first);
@@ -156,7 +156,7 @@ fn many(text: &[u8], tokens: &[u32], source: &mut [u8], n: usize)
 }
 
 // The whole table, of all tokens.
-pub fn tell(text: &[u8], tokens: &[u32], source: &mut [u8])
+pub(crate) fn tell(text: &[u8], tokens: &[u32], source: &mut [u8])
     requires { ⌜ Table (now text) (now tokens) (now source) 0 ⌝ }
     ensures { λ _. ⌜ Table (now (text .entry)) (now (tokens .entry)) (now (source .exit)) tableEntries ⌝ }
 {

@@ -4,11 +4,15 @@ ghost use mathlib.Core.Path.{_≡_};
 ghost use mathlib.Core.Bool.{true};
 ghost use Prim.Native.Nat.{_≤_};
 ghost use lib.ListN.{length, take};
-ghost use Rattle.reading.specs.Source.{isTold, firstOf, Annotates};
+ghost use Rattle.reading.specs.Source.{isTold, firstOf};
 ghost use Rattle.interner.specs.Same.{Inside};
+ghost use Rattle.interner.specs.Table.{Annotates};
 
 mod chains;
 mod table;
+
+// The bytes of a source that has a table.
+pub const SOURCE_BYTES: usize = 196608;
 
 // Whether there is a table, and token `i` is a name of this kind that it tells of.
 fn told(source: &[u8], tokens: &[u32], kind: u32, i: usize) -> bool
@@ -21,7 +25,7 @@ fn told(source: &[u8], tokens: &[u32], kind: u32, i: usize) -> bool
         return false;
     }
     if table::is_name(kind) {
-        return table::kind_at(tokens, i) == kind;
+        return spellings::kind_at(tokens, i) == kind;
     }
     false
 }
@@ -69,7 +73,7 @@ fn copy(text: &[u8], source: &mut [u8])
 pub fn annotate(text: &[u8], tokens: &[u32], source: &mut [u8]) -> bool
     ensures { λ r. ⌜ (r ≡ true → Annotates (now (source .exit)) (now (text .entry)) (now (tokens .entry))) ⌝ }
 {
-    if source.len() != table::LENGTH {
+    if source.len() != SOURCE_BYTES {
         return false;
     }
     if table::START < text.len() {

@@ -2,32 +2,17 @@
 ghost use mathlib.Core.Path.{_≡_};
 ghost use Prim.Native.Nat.{_<_};
 ghost use lib.ListN.{length, getD};
-ghost use Rattle.words.specs.Words.{tokenKind};
-ghost use Rattle.literals.specs.Spelling.{wordAt};
 ghost use Rattle.reading.specs.Source.{entry, isName};
 ghost use Rattle.interner.specs.Table.{sourceLength, written};
 use words::token;
 
 // No text has more bytes, so the table begins there.
-pub const START: usize = 65536;
+pub(crate) const START: usize = 65536;
 
 // Tokens from this one on are not in the table.
-pub const ENTRIES: usize = 65536;
+pub(crate) const ENTRIES: usize = 65536;
 
-// The bytes of a source: room for the text, and for the table.
-pub const LENGTH: usize = 196608;
-
-// The kind of a token; past the words stands an Eof.
-pub fn kind_at(tokens: &[u32], i: usize) -> u32
-    ensures { λ r. ⌜ r ≡ tokenKind (wordAt (now (tokens .entry)) i) ⌝ }
-{
-    if tokens.len() <= i {
-        return token::EOF;
-    }
-    words::token_kind(tokens[i])
-}
-
-pub fn is_name(kind: u32) -> bool
+pub(crate) fn is_name(kind: u32) -> bool
     ensures { λ r. ⌜ r ≡ isName kind ⌝ }
 {
     if kind == token::IDENTIFIER {
@@ -36,7 +21,7 @@ pub fn is_name(kind: u32) -> bool
     kind == token::BUILTIN_NAME
 }
 
-pub fn wide(b: u8) -> usize
+pub(crate) fn wide(b: u8) -> usize
     ensures { λ r. ⌜ (r ≡ b) × (r < 256) ⌝ }
 {
     b as usize
@@ -53,7 +38,7 @@ fn byte(source: &[u8], n: usize) -> usize
 }
 
 // What the table says of token `i`.
-pub fn get(source: &[u8], i: usize) -> usize
+pub(crate) fn get(source: &[u8], i: usize) -> usize
     requires { ⌜ i < 65536 ⌝ }
     ensures { λ r. ⌜ r ≡ entry (now (source .entry)) i ⌝ }
 {
@@ -62,7 +47,7 @@ pub fn get(source: &[u8], i: usize) -> usize
 }
 
 // The table is told of token `i`.
-pub fn put(source: &mut [u8], i: usize, first: usize)
+pub(crate) fn put(source: &mut [u8], i: usize, first: usize)
     requires { ⌜ (length (now source) ≡ sourceLength) × (i < 65536) × (first < 65536) ⌝ }
     ensures { λ _. ⌜ now (source .exit) ≡ written (now (source .entry)) i first ⌝ }
 {

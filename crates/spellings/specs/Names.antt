@@ -7,10 +7,10 @@ use native.Mathlib.Omega.{arith}
 use native.Mathlib.Numerals.{add-one}
 use borrow.Author.Tests.{eq-eqb, ne-eqb}
 use lib.Dec.{eqb}
-use lib.ListN.{length, getD, drop, drop-of-length-le}
+use lib.ListN.{length, getD, drop, drop-of-length-le, List·getD-eq-default}
 use lib.Seq.{drop-cons}
 use Rattle.words.specs.Token
-use Rattle.words.specs.Words.{tokenWord, tokenKind, tokenEnd}
+use Rattle.words.specs.Words.{tokenWord, tokenKind, tokenEnd, pack, high}
 use Rattle.lexer.specs.Lex.{spellingOf}
 use Rattle.literals.specs.Spelling.{wordAt, tokenStart, spelling, alike, firstFrom, firstAlike}
 use Rattle.spellings.specs.Spelled.{within, spelled}
@@ -37,12 +37,20 @@ pub alike-over : (a b : List ℕ) (i : ℕ) → length a ≡ length b → length
 unfolding alike
 alike-over a b i e h = rw (drop-of-length-le a {i = i} h, drop-of-length-le b {i = i} (omega arith))
 
-module _ (text tokens : List ℕ) (kind : ℕ) where
-  module _ (n : ℕ) (name : List ℕ) (k : ℕ) (h : n < length tokens) (e : k ≡ tokenKind (getD tokens n 0)) where
-    is-kind : k ≡ tokenKind (wordAt tokens n)
-    is-kind = e ∙ ap tokenKind (within tokens n 0 (tokenWord Token.Eof 0) h)
+-- The kind of a token; past the words stands an Eof.
+abbrev pub kindAt : List ℕ → ℕ → ℕ
+kindAt tokens i = tokenKind (wordAt tokens i)
 
-    pub named-other : (k ≡ kind → ⊥) → false ≡ (eqb (tokenKind (wordAt tokens n)) kind && alike (spelling text tokens n) name)
+pub kind-past : (tokens : List ℕ) (i : ℕ) → length tokens ≤ i → Token.Eof ≡ kindAt tokens i
+unfolding pack high
+kind-past tokens i h = rw (List·getD-eq-default tokens (tokenWord Token.Eof 0) {n = i} h)
+
+pub kind-within : (tokens : List ℕ) (i k : ℕ) → i < length tokens → k ≡ tokenKind (getD tokens i 0) → k ≡ kindAt tokens i
+kind-within tokens i k h e = e ∙ ap tokenKind (within tokens i 0 (tokenWord Token.Eof 0) h)
+
+module _ (text tokens : List ℕ) (kind : ℕ) where
+  module _ (n : ℕ) (name : List ℕ) (k : ℕ) (is-kind : k ≡ kindAt tokens n) where
+    pub named-other : (k ≡ kind → ⊥) → false ≡ (eqb (kindAt tokens n) kind && alike (spelling text tokens n) name)
     named-other g = rw (← is-kind, ne-eqb k kind g)
 
     pub named-kind : k ≡ kind → (source : List ℕ) → source ≡ spellingOf text tokens n

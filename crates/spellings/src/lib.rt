@@ -1,11 +1,10 @@
 // Names: the first token that is spelled alike.
 ghost use mathlib.Core.Path.{_≡_};
 ghost use mathlib.Core.Bool.{_&&_};
-ghost use Prim.Native.Nat.{_<_};
 ghost use lib.Dec.{eqb};
-ghost use lib.ListN.{length};
 ghost use Rattle.words.specs.Words.{tokenKind};
 ghost use Rattle.literals.specs.Spelling.{wordAt, spelling, alike, firstAlike};
+use words::token;
 
 // Whether two spellings are the same bytes.
 fn alike(a: &[u8], b: &[u8]) -> bool
@@ -24,12 +23,21 @@ fn alike(a: &[u8], b: &[u8]) -> bool
     true
 }
 
+// The kind of a token; past the words stands an Eof.
+pub fn kind_at(tokens: &[u32], i: usize) -> u32
+    ensures { λ r. ⌜ r ≡ tokenKind (wordAt (now (tokens .entry)) i) ⌝ }
+{
+    if tokens.len() <= i {
+        return token::EOF;
+    }
+    words::token_kind(tokens[i])
+}
+
 // Whether token `n` is of the kind and spelled `name`.
 pub fn named(text: &[u8], tokens: &[u32], kind: u32, name: &[u8], n: usize) -> bool
-    requires { ⌜ n < length (now tokens) ⌝ }
     ensures { λ r. ⌜ r ≡ (eqb (tokenKind (wordAt (now (tokens .entry)) n)) kind && alike (spelling (now (text .entry)) (now (tokens .entry)) n) (now (name .entry))) ⌝ }
 {
-    if words::token_kind(tokens[n]) != kind {
+    if kind_at(tokens, n) != kind {
         return false;
     }
     alike(lexer::spelling(text, tokens, n), name)

@@ -5,17 +5,11 @@ use borrow.Author.Needs.{needs}
 use Rattle.spellings.proofs.named.Statement.{statement}
 use Rattle.spellings.proofs.named.Tie as tie
 
-mul-token-kind : tie.Need-mul-token-kind
-mul-token-kind c = search needs
-
-shared-slice-read-token-kind : tie.Need-shared-slice-read-token-kind
-shared-slice-read-token-kind c = search needs
-
-token-kind-requires : tie.Need-token-kind-requires
-token-kind-requires c κs = search needs
+kind-at-requires : tie.Need-kind-at-requires
+kind-at-requires c κs = search needs
 
 returns : tie.Need-returns
-returns c = named-other (c .before .before .before .before .before .before .args .text .now) (c .before .before .before .before .before .before .args .tokens .now) _ _ (c .before .before .before .before .before .before .args .name .now) _ (c .before .before .before .before .before .before .pre) (c .before .token-kind .ensures) (c .if1 .taken)
+returns c = named-other (c .before .before .before .before .before .args .text .now) (c .before .before .before .before .before .args .tokens .now) _ _ (c .before .before .before .before .before .args .name .now) _ (c .before .kind-at .ensures) (c .if1 .taken)
 
 spelling-requires : tie.Need-spelling-requires
 spelling-requires c κs = search needs
@@ -24,15 +18,13 @@ alike-requires : tie.Need-alike-requires
 alike-requires c κs = search needs
 
 returns-2 : tie.Need-returns-2
-returns-2 c = c .alike .ensures ∙ named-kind _ _ _ _ _ _ (c .before .before .before .before .before .before .before .before .pre) (c .before .before .before .token-kind .ensures) (c .before .before .if1 .left) _ (c .before .spelling .ensures)
+returns-2 c = c .alike .ensures ∙ named-kind _ _ _ _ _ _ (c .before .before .before .kind-at .ensures) (c .before .before .if1 .left) _ (c .before .spelling .ensures)
 
 pub named-spec : {M : Type 1} → statement M
 named-spec =
     tie.close
     (tie.spec
-    mul-token-kind
-    shared-slice-read-token-kind
-    token-kind-requires
+    kind-at-requires
     returns
     spelling-requires
     alike-requires

@@ -1,8 +1,8 @@
 -- `kind_at` meets its contract, by case.
-use Rattle.interner.specs.Told.{kind-past, kind-within}
+use Rattle.spellings.specs.Names.{kind-past, kind-within}
 use borrow.Author.Needs.{needs}
-use Rattle.interner.proofs.table.kind_at.Statement.{statement}
-use Rattle.interner.proofs.table.kind_at.Tie as tie
+use Rattle.spellings.proofs.kind_at.Statement.{statement}
+use Rattle.spellings.proofs.kind_at.Tie as tie
 
 returns : tie.Need-returns
 returns c = kind-past (c .before .before .args .tokens .now) _ (c .if1 .taken)
