@@ -1,19 +1,21 @@
 -- What parsing answers, in document 01's terms, and that the file's reading comes to it.
 use mathlib.Core.Path.{_≡_, refl, sym, _∙_, ap}
-use mathlib.Core.Bool.{Bool, true, false}
+use mathlib.Core.Bool.{cond}
 use mathlib.Core.List.{List, [], _∷_}
-use Prim.Native.Nat.{ℕ, _-_}
-use native.Mathlib.Omega.{arith}
-use borrow.Author.Tests.{eq-eqb, ne-eqb}
-use lib.Dec.{eqb}
+use Prim.Native.Nat.{ℕ, _≤_, _<_}
+use borrow.Author.Tests.{eq-eqb, ne-eqb, lt-ltb, le-ltb}
+use lib.Dec.{ltb}
 use lib.ListN.{length, replicate}
 use Rattle.words.specs.Answer.{Answer}
 use Rattle.words.specs.Answer as Answer
+use Rattle.words.specs.Refusal
+use Rattle.lexer.specs.Lex.{longestText}
 use Rattle.definition.specs.Prog.{Memory, memory, Out, done, refused}
 use Rattle.definition.specs.Declarations.{parseFile}
 use Rattle.definition.specs.Parse.{maxDepth, start, zeros, parsedTo, parsedWithin, parsed}
 use Rattle.definition.specs.Parse.{Parsed as Definition}
 use Rattle.reading.specs.declared.Reading.{Reading}
+use Rattle.reading.specs.Source.{Right}
 use Rattle.reading.specs.Does.{Does, run}
 use Rattle.parser.specs.declared.Parsed.{Parsed}
 use Rattle.parser.specs.declared.Parsed.the-variants.{Counts, Refused}
@@ -35,15 +37,29 @@ zeroed words = replicate (length words) 0
 abbrev pub begun : List ℕ → Reading
 begun tokens = record { state = start tokens; refusal = 0; place = 0 }
 
-module _ {text tokens : List ℕ} (n v w : ℕ) {file : ℕ} {r : Reading} {m : Memory} (e : Does text tokens maxDepth parseFile (begun tokens) (zeros n v w) file r m) where
+-- "2 over 65,536 bytes (65,536)" (01, Refusals). Lexing refuses such a text, so reading parses none.
+unfoldable pub parsedText : List ℕ → List ℕ → ℕ → ℕ → ℕ → Definition
+parsedText text tokens n v w =
+    cond (ltb longestText (length text)) (record { answer = Answer.refused Refusal.TooLong longestText; words = zeros n v w }) (parsed text tokens n v w)
+
+module _ (text tokens : List ℕ) (n v w : ℕ) where
+  pub text-long : longestText < length text → given (Refused Refusal.TooLong longestText) (zeros n v w) ≡ parsedText text tokens n v w
+  unfolding parsedText
+  text-long h = rw (lt-ltb longestText (length text) h)
+
+  pub text-short : length text ≤ longestText → parsed text tokens n v w ≡ parsedText text tokens n v w
+  unfolding parsedText
+  text-short h = rw (le-ltb longestText (length text) h)
+
+module _ {text tokens : List ℕ} (n v w : ℕ) {file : ℕ} {r : Reading} {m : Memory} (right : Right text tokens) (e : Does text tokens maxDepth parseFile (begun tokens) (zeros n v w) file r m) where
   came-to : (o : Out ℕ) → o ≡ run text tokens maxDepth parseFile (start tokens) (zeros n v w) → parsedTo (zeros n v w) o ≡ parsed text tokens n v w
   unfolding parsed parsedWithin
   came-to o h = ap (parsedTo (zeros n v w)) h
 
   pub read : r .refusal ≡ 0 → given (Counts (r .state .nodes) (r .state .values) (r .state .reports)) m ≡ parsed text tokens n v w
   unfolding parsedTo
-  read h = came-to (done file (r .state) m) (rw (eq-eqb (r .refusal) 0 h) at (e .is w))
+  read h = came-to (done file (r .state) m) (rw (eq-eqb (r .refusal) 0 h) at (e .is right))
 
   pub refuses : (r .refusal ≡ 0 → ⊥) → given (Refused (r .refusal) (r .place)) (zeros n v w) ≡ parsed text tokens n v w
   unfolding parsedTo
-  refuses h = came-to (refused (r .refusal) (r .place)) (rw (ne-eqb (r .refusal) 0 h) at (e .is w))
+  refuses h = came-to (refused (r .refusal) (r .place)) (rw (ne-eqb (r .refusal) 0 h) at (e .is right))

@@ -1,13 +1,17 @@
 // The parser as a whole. `parse` is no public call: reading begins with the crate plank.
 ghost use mathlib.Core.Path.{_≡_};
+ghost use Prim.Native.Nat.{_≤_};
 ghost use lib.ListN.{length};
 ghost use Rattle.definition.specs.Prog.{memory};
 ghost use Rattle.definition.specs.Parse.{tokenLimit, parsed};
-ghost use Rattle.parser.specs.Answers.{given, zeroed, begun};
+ghost use Rattle.reading.specs.Source.{Right};
+ghost use Rattle.parser.specs.Answers.{given, zeroed, begun, parsedText};
 use declarations::parse_file;
 use definition::Cursor;
 use definition::State;
+use lexer::LONGEST_TEXT;
 use reading::Reading;
+use words::refusal;
 
 // What parsing answers: the counts of nodes, value words and reports, or a refusal's number and place.
 pub enum Parsed {
@@ -57,22 +61,24 @@ fn begin(tokens: &[u32]) -> Reading
 // "Depth is the number of `try_parse_expr_min_bp` and `parse_block` readings open at one moment; entering the 257th is refusal 3" (01).
 const MAX_DEPTH: u32 = 256;
 
-// A text and its token words to nodes, values and reports; the rest of each slice is 0, and all of it on refusal. The token words
-// need not be a text's.
-pub fn parse(
-    text: &[u8],
+// Texts up to this length are parsed as they are: to look at all tokens for each name takes less time than to make a table.
+const SHORT_TEXT: usize = 2048;
+
+// The text, or the text with a table of names behind it, is parsed.
+fn parse_source(
+    source: &[u8],
     tokens: &[u32],
     nodes: &mut [u32],
     values: &mut [u32],
     reports: &mut [u32],
 ) -> Parsed
-    ensures { λ r. ⌜ given r (memory (now (nodes .exit)) (now (values .exit)) (now (reports .exit))) ≡ parsed (now (text .entry)) (now (tokens .entry)) (length (now (nodes .entry))) (length (now (values .entry))) (length (now (reports .entry))) ⌝ }
+    ensures { λ r. ⌜ (Right (now (source .entry)) (now (tokens .entry)) → given r (memory (now (nodes .exit)) (now (values .exit)) (now (reports .exit))) ≡ parsed (now (source .entry)) (now (tokens .entry)) (length (now (nodes .entry))) (length (now (values .entry))) (length (now (reports .entry)))) ⌝ }
 {
     clear(nodes);
     clear(values);
     clear(reports);
     let s = begin(tokens);
-    let file = parse_file(MAX_DEPTH, s, text, tokens, nodes, values, reports);
+    let file = parse_file(MAX_DEPTH, s, source, tokens, nodes, values, reports);
     let at = file.at;
     if at.refusal != 0 {
         clear(nodes);
@@ -82,4 +88,45 @@ pub fn parse(
     }
     let state = at.state;
     Parsed::Counts(state.nodes, state.values, state.reports)
+}
+
+// A table of names is made first, so that each name is looked up in one step.
+fn parse_long(
+    text: &[u8],
+    tokens: &[u32],
+    nodes: &mut [u32],
+    values: &mut [u32],
+    reports: &mut [u32],
+) -> Parsed
+    requires { ⌜ length (now text) ≤ 65536 ⌝ }
+    ensures { λ r. ⌜ given r (memory (now (nodes .exit)) (now (values .exit)) (now (reports .exit))) ≡ parsed (now (text .entry)) (now (tokens .entry)) (length (now (nodes .entry))) (length (now (values .entry))) (length (now (reports .entry))) ⌝ }
+{
+    let mut source = [0u8; interner::SOURCE_BYTES];
+    if interner::annotate(text, tokens, &mut source) {
+        return parse_source(&source, tokens, nodes, values, reports);
+    }
+    parse_source(text, tokens, nodes, values, reports)
+}
+
+// A text and its token words to nodes, values and reports; the rest of each slice is 0, and all of it on refusal. The token words
+// need not be a text's.
+pub fn parse(
+    text: &[u8],
+    tokens: &[u32],
+    nodes: &mut [u32],
+    values: &mut [u32],
+    reports: &mut [u32],
+) -> Parsed
+    ensures { λ r. ⌜ given r (memory (now (nodes .exit)) (now (values .exit)) (now (reports .exit))) ≡ parsedText (now (text .entry)) (now (tokens .entry)) (length (now (nodes .entry))) (length (now (values .entry))) (length (now (reports .entry))) ⌝ }
+{
+    if LONGEST_TEXT < text.len() {
+        clear(nodes);
+        clear(values);
+        clear(reports);
+        return Parsed::Refused(refusal::TOO_LONG, LONGEST_TEXT as u32);
+    }
+    if text.len() <= SHORT_TEXT {
+        return parse_source(text, tokens, nodes, values, reports);
+    }
+    parse_long(text, tokens, nodes, values, reports)
 }

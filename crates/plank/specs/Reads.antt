@@ -1,5 +1,5 @@
 -- What reading answers, in document 01's terms, and that its two steps come to it.
-use mathlib.Core.Path.{_≡_, refl, _∙_, ap}
+use mathlib.Core.Path.{_≡_, refl, sym, _∙_, ap}
 use mathlib.Core.Bool.{Bool, true, false, cond}
 use mathlib.Core.List.{List, [], _∷_}
 use Prim.Native.Nat.{ℕ, _≤_}
@@ -21,7 +21,7 @@ use Rattle.definition.specs.Parse.{Parsed as Definition}
 use Rattle.parser.specs.declared.Parsed.{Parsed}
 use Rattle.parser.specs.declared.Parsed.the-variants as Parsing
 use Rattle.parser.specs.Answers as Parser
-use Rattle.parser.specs.Answers.{zeroed}
+use Rattle.parser.specs.Answers.{zeroed, parsedText, text-short}
 use Rattle.reader.specs.Read.{Read, Lent, after, afterLexing, reads}
 use Rattle.reader.specs.Demand.{Agrees}
 use Rattle.reader.specs.Joined.{agrees-of}
@@ -61,6 +61,14 @@ module _ (text : List ℕ) (k n : ℕ) where
   long true e = let z : _≡_ {A = ℕ} 0 1 = cc in omega arith
   long false e = good (checked text) e
 
+  short : (t : Bool) → ltb longestText (length text) ≡ t → done (n ∷ []) ≡ cond t (refused Refusal.TooLong longestText) (checking (checked text)) → length text ≤ longestText
+  short true h e = let z : _≡_ {A = ℕ} 0 1 = cc in omega arith
+  short false h e = ltb-false longestText (length text) h
+
+  pub text-fits : done (n ∷ []) ≡ lexed text k → length text ≤ longestText
+  unfolding lexed
+  text-fits e = short (ltb longestText (length text)) refl e
+
   pub tokens-fit : done (n ∷ []) ≡ lexed text k → n ≤ k
   unfolding lexed
   tokens-fit e = long (ltb longestText (length text)) e
@@ -91,7 +99,11 @@ module _ (text tokens ns vs rs : List ℕ) (n : ℕ) where
   unfolding parsed parsedWithin
   cleared number place m e = refused-words _ m _ number place e
 
-  module _ (r : Parsed) {ns′ vs′ rs′ : List ℕ} (e : Parser.given r (memory ns′ vs′ rs′) ≡ parse-done) where
+  module _ (r : Parsed) {ns′ vs′ rs′ : List ℕ} (p : Parser.given r (memory ns′ vs′ rs′) ≡ parsedText text (take n tokens) (length ns) (length vs) (length rs))
+      (short : length text ≤ longestText) where
+    e : Parser.given r (memory ns′ vs′ rs′) ≡ parse-done
+    e = p ∙ sym (text-short text (take n tokens) (length ns) (length vs) (length rs) short)
+
     pub parsed-done : (a b c : ℕ) → r ≡ Parsing.Counts a b c → given (Counts n a b c) tokens ns′ vs′ rs′ ≡ after-done
     unfolding after
     parsed-done a b c h = came-to (Parser.given (Parsing.Counts a b c) (memory ns′ vs′ rs′)) (rw h at e)

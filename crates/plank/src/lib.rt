@@ -26,7 +26,7 @@ fn parse_lexed(
     reports: &mut [u32],
     n: usize,
 ) -> Outcome
-    requires { ⌜ n ≤ length (now tokens) ⌝ }
+    requires { ⌜ (n ≤ length (now tokens)) × (length (now text) ≤ 65536) ⌝ }
     ensures { λ r. ⌜ given r (now (tokens .exit)) (now (nodes .exit)) (now (values .exit)) (now (reports .exit)) ≡ afterLexing (now (text .entry)) (lent (now (tokens .entry)) (now (nodes .entry)) (now (values .entry)) (now (reports .entry))) (now (tokens .entry)) (done (n ∷ [])) ⌝ }
 {
     match parser::parse(text, &tokens[..n], nodes, values, reports) {

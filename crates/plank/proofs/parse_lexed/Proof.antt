@@ -37,7 +37,7 @@ same-length-4 : tie.Need-same-length-4
 same-length-4 c = search needs
 
 returns : tie.Need-returns
-returns c = let a = c .before .before .before .before .before .before .before .before .before .before .before .before .before .before .before .before .before .before .before .args in let p = c .before .before .before .before .before .before .before .before .before .parse in parsed-done (a .text .now) (a .tokens .now) (a .nodes .now) (a .values .now) (a .reports .now) (a .n) (p .result) (p .ensures) _ _ _ (c .before .nodes2 .given .1)
+returns c = let a = c .before .before .before .before .before .before .before .before .before .before .before .before .before .before .before .before .before .before .before .args in let p = c .before .before .before .before .before .before .before .before .before .parse in parsed-done (a .text .now) (a .tokens .now) (a .nodes .now) (a .values .now) (a .reports .now) (a .n) (p .result) (p .ensures) (search needs) _ _ _ (c .before .nodes2 .given .1)
 
 same-length-5 : tie.Need-same-length-5
 same-length-5 c = search needs
@@ -52,7 +52,7 @@ same-length-8 : tie.Need-same-length-8
 same-length-8 c = search needs
 
 returns-2 : tie.Need-returns-2
-returns-2 c = let a = c .before .before .before .before .before .before .before .before .before .before .before .before .before .before .before .before .before .before .before .before .before .before .before .args in let p = c .before .before .before .before .before .before .before .before .before .before .before .before .before .parse in rw (c .before .before .clear .ensures) (parsed-refused (a .text .now) (a .tokens .now) (a .nodes .now) (a .values .now) (a .reports .now) (a .n) (p .result) (p .ensures) _ _ (c .before .before .before .before .before .number .given .1))
+returns-2 c = let a = c .before .before .before .before .before .before .before .before .before .before .before .before .before .before .before .before .before .before .before .before .before .before .before .args in let p = c .before .before .before .before .before .before .before .before .before .before .before .before .before .parse in rw (c .before .before .clear .ensures) (parsed-refused (a .text .now) (a .tokens .now) (a .nodes .now) (a .values .now) (a .reports .now) (a .n) (p .result) (p .ensures) (search needs) _ _ (c .before .before .before .before .before .number .given .1))
 
 pub parse-lexed-spec : {M : Type 1} → statement M
 parse-lexed-spec =

@@ -3,7 +3,7 @@ use mathlib.Core.Path.{sym, _∙_, ap}
 use lib.ListN.{length}
 use Rattle.lexer.specs.Lex.{answer}
 use Rattle.lexer.specs.Calls.{place-small}
-use Rattle.plank.specs.Reads.{tokens-fit, lexed-done, lexed-refused, both-clauses}
+use Rattle.plank.specs.Reads.{text-fits, tokens-fit, lexed-done, lexed-refused, both-clauses}
 use borrow.Author.Needs.{needs}
 use native.Mathlib.Omega.{arith}
 use Rattle.plank.proofs.read.Statement.{statement}
@@ -16,7 +16,7 @@ enum-known-n : tie.Need-enum-known-n
 enum-known-n c = search needs
 
 parse-lexed-requires : tie.Need-parse-lexed-requires
-parse-lexed-requires c κs = let a = c .before .before .before .before .before .before .before .before .before .before .before .before .before .before .before .before .args in let l = c .before .before .before .before .before .before .before .before .before .lex in let e = ap answer (sym (c .before .before .before .before .before .n .given .1)) ∙ l .ensures .0 in omega (arith, tokens-fit (a .text .now) (length (a .tokens .now)) _ e, l .kept .1 .0)
+parse-lexed-requires c κs = let a = c .before .before .before .before .before .before .before .before .before .before .before .before .before .before .before .before .args in let l = c .before .before .before .before .before .before .before .before .before .lex in let e = ap answer (sym (c .before .before .before .before .before .n .given .1)) ∙ l .ensures .0 in (omega (arith, tokens-fit (a .text .now) (length (a .tokens .now)) _ e, l .kept .1 .0), text-fits (a .text .now) (length (a .tokens .now)) _ e)
 
 enum-known-number : tie.Need-enum-known-number
 enum-known-number c = search needs
