@@ -3,6 +3,7 @@ pub mod Numbers
 pub mod Digits
 pub mod Times
 pub mod Put
+pub mod Hexadecimal
 pub mod Kept
 pub mod Number
 pub mod Chars

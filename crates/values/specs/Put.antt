@@ -16,11 +16,11 @@ use Rattle.values.specs.Limbs.{multiplied, carried, multiplied-length, l
 use Rattle.values.specs.Numbers.{option, grown, Put, Pushed}
 
 module _ (radix n b : ℕ) (s : List ℕ) where
-  digits-some : (d : ℕ) → nibble b ≡ some d → digits radix n (b ∷ s) ≡ digits radix (n * radix + d) s
+  pub digits-some : (d : ℕ) → nibble b ≡ some d → digits radix n (b ∷ s) ≡ digits radix (n * radix + d) s
   unfolding digits
   digits-some d e = rw (e, digits)
 
-  digits-pass : nibble b ≡ none → digits radix n (b ∷ s) ≡ digits radix n s
+  pub digits-pass : nibble b ≡ none → digits radix n (b ∷ s) ≡ digits radix n s
   unfolding digits
   digits-pass e = rw (e, digits)
 

@@ -5,6 +5,7 @@ ghost use Rattle.values.specs.Kept.{pastWords};
 
 mod bytes;
 mod digit;
+mod hexadecimal;
 pub mod number;
 pub mod strings;
 

@@ -13,6 +13,7 @@ use crate::Base;
 use crate::Count;
 use crate::Stored;
 use crate::digit;
+use crate::hexadecimal;
 use reading::Maybe;
 use reading::Reading;
 
@@ -56,9 +57,9 @@ fn push(room: &mut [u32], n: usize, radix: u32, digit: u32) -> Count
     Count::Words(n + 1)
 }
 
-// The limbs of the number that the digits of `source` from `prefix` on make, in front of `room`. All that is no digit is
-// passed over.
-fn put(source: &[u8], prefix: usize, radix: u32, room: &mut [u32]) -> Count
+// The limbs of the number that the digits of `source` from `prefix` on make, in front of `room`, digit by digit. All that is
+// no digit is passed over.
+fn put_digits(source: &[u8], prefix: usize, radix: u32, room: &mut [u32]) -> Count
     requires { ⌜ 0 < radix ⌝ }
     ensures { λ r. ⌜ Put (limbs (digits radix 0 (drop prefix (now (source .entry))))) (now (room .entry)) r (now (room .exit)) ⌝ }
 {
@@ -76,6 +77,17 @@ fn put(source: &[u8], prefix: usize, radix: u32, room: &mut [u32]) -> Count
         }
     }
     Count::Words(n)
+}
+
+// The same, by what is fastest.
+fn put(source: &[u8], prefix: usize, radix: u32, room: &mut [u32]) -> Count
+    requires { ⌜ 0 < radix ⌝ }
+    ensures { λ r. ⌜ Put (limbs (digits radix 0 (drop prefix (now (source .entry))))) (now (room .entry)) r (now (room .exit)) ⌝ }
+{
+    if radix == 16 {
+        return hexadecimal::put(source, prefix, room);
+    }
+    put_digits(source, prefix, radix, room)
 }
 
 // The value of a number, stored from word `at` on: where it ends.
