@@ -13,7 +13,7 @@ use Rattle.values.specs.declared.Count.{Count}
 use Rattle.values.specs.declared.Count.the-variants.{Words, DontFit}
 use Rattle.values.specs.Limbs.{limbs-zero, limbs-more, limbs-one}
 use Rattle.values.specs.Numbers.{Put}
-use Rattle.values.specs.Put.{digits-some, digits-pass}
+use Rattle.values.specs.Chunks.{digits-some, digits-pass}
 
 -- ---- how many digits count, and how many limbs they make
 

@@ -2,6 +2,7 @@ pub mod Limbs
 pub mod Numbers
 pub mod Digits
 pub mod Times
+pub mod Chunks
 pub mod Put
 pub mod Hexadecimal
 pub mod Kept

@@ -1,8 +1,8 @@
 -- What a number token's value does, by case.
 use mathlib.Core.Path.{_≡_, refl, sym, _∙_, ap}
 use mathlib.Core.List.{List}
-use Prim.Native.Nat.{ℕ, _<_}
-use lib.Dec.{lit<}
+use Prim.Native.Nat.{ℕ}
+use native.Mathlib.Omega.{arith}
 use lib.ListN.{drop}
 use Rattle.words.specs.Refusal
 use Rattle.lexer.specs.Lex.{spellingOf}
@@ -16,13 +16,14 @@ use Rattle.values.specs.declared.Base.the-variants.{Binary, Decimal, Hex
 use Rattle.values.specs.declared.Count.{Count}
 use Rattle.values.specs.declared.Count.the-variants.{Words, DontFit}
 use Rattle.values.specs.Numbers.{radixOf}
+use Rattle.values.specs.Chunks.{Radix}
 use Rattle.values.specs.Kept.{Kept, pastWords, value-full, value-fits}
 use Rattle.spellings.specs.Spelled.{spelled}
 
-pub radix-more : (base : Base) → 0 < radixOf base
-radix-more Binary = lit< tt
-radix-more Decimal = lit< tt
-radix-more Hexadecimal = lit< tt
+pub radix-is : (base : Base) → Radix (radixOf base)
+radix-is Binary = omega arith
+radix-is Decimal = omega arith
+radix-is Hexadecimal = omega arith
 
 module _ (text tokens : List ℕ) (d : ℕ) (s : Reading) (ns vs vs′ rs : List ℕ) (h : s .refusal ≡ 0) (token prefix : ℕ) (base : Base)
     (source : List ℕ) (es : source ≡ spellingOf text tokens token) (radix : ℕ) (er : radix ≡ radixOf base)

@@ -13,16 +13,8 @@ use Rattle.literals.specs.Numbers.{limbs, nibble, digits}
 use Rattle.values.specs.declared.Count.{Count}
 use Rattle.values.specs.declared.Count.the-variants.{Words, DontFit}
 use Rattle.values.specs.Limbs.{multiplied, carried, multiplied-length, limbs-zero, limbs-times}
-use Rattle.values.specs.Numbers.{option, grown, Put, Pushed}
-
-module _ (radix n b : ℕ) (s : List ℕ) where
-  pub digits-some : (d : ℕ) → nibble b ≡ some d → digits radix n (b ∷ s) ≡ digits radix (n * radix + d) s
-  unfolding digits
-  digits-some d e = rw (e, digits)
-
-  pub digits-pass : nibble b ≡ none → digits radix n (b ∷ s) ≡ digits radix n s
-  unfolding digits
-  digits-pass e = rw (e, digits)
+use Rattle.values.specs.Numbers.{grown, Put, Pushed}
+use Rattle.values.specs.Chunks.{Chunk}
 
 module _ (radix : ℕ) (pos : 0 < radix) where
   -- A number has no fewer limbs with a digit more.
@@ -71,40 +63,27 @@ module _ (radix : ℕ) (source : List ℕ) (prefix : ℕ) (lent : List ℕ) wher
         let e : t .value ≡ digits radix 0 (drop prefix source) = rw (drop-of-length-le source h) at (t .left) in
         rw (← e) (t .count, t .fits, t .words)
 
-    module _ (c : ℕ) (ec : c ≡ getD source i 0) (h : i < length source) where
-      at-next : drop i source ≡ c ∷ drop (i + 1) source
-      at-next = rw (ec, add-one) (drop-cons source i 0 h)
+    -- A chunk of digits more.
+    module _ (pos : 0 < radix) (value unit j : ℕ) (k : Chunk radix source i value unit j) (r : Count) (out : List ℕ) (p : Pushed unit value room n r out) where
+      next : ℕ
+      next = t .value * unit + value
 
-      pub digits-none : none ≡ nibble c → Digits radix source prefix lent room n (i + 1)
-      digits-none e =
-          record {
-            value = t .value;
-            left = sym (digits-pass radix (t .value) c (drop (i + 1) source) (sym e)) ∙ (rw at-next at (t .left));
-            words = t .words;
-            count = t .count;
-            fits = t .fits;
-          }
+      next-left : digits radix next (drop j source) ≡ digits radix 0 (drop prefix source)
+      unfolding next
+      next-left = sym (k .same (t .value)) ∙ t .left
 
-      module _ (pos : 0 < radix) (digit : ℕ) (r : Count) (out : List ℕ) (e : some digit ≡ nibble c) (p : Pushed radix digit room n r out) where
-        next : ℕ
-        next = t .value * radix + digit
+      next-limbs : grown unit value (take n room) ≡ limbs next
+      unfolding next
+      next-limbs = rw (t .words, take-at (limbs (t .value)) (drop n lent) n (sym (t .count))) (sym (limbs-times unit (k .some) (t .value) value))
 
-        next-left : digits radix next (drop (i + 1) source) ≡ digits radix 0 (drop prefix source)
-        unfolding next
-        next-left = sym (digits-some radix (t .value) c (drop (i + 1) source) digit (sym e)) ∙ (rw at-next at (t .left))
+      pub digits-full : r ≡ DontFit → Put (limbs (digits radix 0 (drop prefix source))) lent DontFit out
+      digits-full f =
+          let q : length room < length (grown unit value (take n room)) = rw f at p in
+          rw (← next-left) (omega (arith, q, ap length next-limbs, digits-grow radix pos next (drop j source), room-length))
 
-        next-limbs : grown radix digit (take n room) ≡ limbs next
-        unfolding next
-        next-limbs = rw (t .words, take-at (limbs (t .value)) (drop n lent) n (sym (t .count))) (sym (limbs-times radix pos (t .value) digit))
-
-        pub digits-full : r ≡ DontFit → Put (limbs (digits radix 0 (drop prefix source))) lent DontFit out
-        digits-full f =
-            let q : length room < length (grown radix digit (take n room)) = rw f at p in
-            rw (← next-left) (omega (arith, q, ap length next-limbs, digits-grow radix pos next (drop (i + 1) source), room-length))
-
-        pub digits-more : (m : ℕ) → r ≡ Words m → Digits radix source prefix lent out m (i + 1)
-        digits-more m f =
-            let q : Put (limbs next) room (Words m) out = rw (f, next-limbs) at p in
-            let g : n ≤ m = unfold next in (omega (arith, q .0, t .count, limbs-grow radix pos (t .value) digit)) in
-            let dropped : drop m room ≡ drop m lent = rw (t .words) (dropped-more (limbs (t .value)) lent n m (sym (t .count)) g) in
-            record { value = next; left = next-left; words = q .2 ∙ ap (λ (l : List ℕ). limbs next ++ l) dropped; count = q .0; fits = omega (arith, q .1, room-length) }
+      pub digits-more : (m : ℕ) → r ≡ Words m → Digits radix source prefix lent out m j
+      digits-more m f =
+          let q : Put (limbs next) room (Words m) out = rw (f, next-limbs) at p in
+          let g : n ≤ m = unfold next in (omega (arith, q .0, t .count, limbs-grow unit (k .some) (t .value) value)) in
+          let dropped : drop m room ≡ drop m lent = rw (t .words) (dropped-more (limbs (t .value)) lent n m (sym (t .count)) g) in
+          record { value = next; left = next-left; words = q .2 ∙ ap (λ (l : List ℕ). limbs next ++ l) dropped; count = q .0; fits = omega (arith, q .1, room-length) }

@@ -8,6 +8,7 @@ ghost use Rattle.definition.specs.Prog.{value, memory};
 ghost use Rattle.reading.specs.Does.{Does};
 ghost use Rattle.values.specs.Limbs.{multiplied, carried};
 ghost use Rattle.values.specs.Numbers.{radixOf, Pushed, Put};
+ghost use Rattle.values.specs.Chunks.{Radix, Chunk};
 ghost use Rattle.values.specs.Kept.{Kept};
 use crate::Base;
 use crate::Count;
@@ -57,42 +58,81 @@ fn push(room: &mut [u32], n: usize, radix: u32, digit: u32) -> Count
     Count::Words(n + 1)
 }
 
-// The limbs of the number that the digits of `source` from `prefix` on make, in front of `room`, digit by digit. All that is
-// no digit is passed over.
-fn put_digits(source: &[u8], prefix: usize, radix: u32, room: &mut [u32]) -> Count
-    requires { ⌜ 0 < radix ⌝ }
+// Some digits: what they make, what a number before them is multiplied by, and where the next ones stand.
+pub(crate) struct Digits {
+    pub value: u32,
+    pub unit: u32,
+    pub next: usize,
+}
+
+// A unit below which a digit more fits.
+const SMALL_UNIT: u32 = 17895697;
+
+// The digits of `source` from byte `i` on, as many as fit. All that is no digit is passed over.
+fn chunk_at(source: &[u8], i: usize, radix: u32) -> Digits
+    requires { ⌜ (i < length (now source)) × Radix radix ⌝ }
+    ensures { λ r. ⌜ Chunk radix (now (source .entry)) i (r .value) (r .unit) (r .next) ⌝ }
+{
+    let mut value = 0;
+    let mut unit = 1;
+    let mut j = i;
+    while j < source.len() {
+        if SMALL_UNIT <= unit {
+            return Digits {
+                value,
+                unit,
+                next: j,
+            };
+        }
+        let c = source[j] as u32;
+        j += 1;
+        match digit::nibble(c) {
+            Maybe::Some(digit) => {
+                value = value * radix + digit;
+                unit *= radix;
+            }
+            Maybe::None => {}
+        }
+    }
+    Digits {
+        value,
+        unit,
+        next: j,
+    }
+}
+
+// The limbs of the number that the digits of `source` from `prefix` on make, in front of `room`, chunk by chunk.
+fn put_chunks(source: &[u8], prefix: usize, radix: u32, room: &mut [u32]) -> Count
+    requires { ⌜ Radix radix ⌝ }
     ensures { λ r. ⌜ Put (limbs (digits radix 0 (drop prefix (now (source .entry))))) (now (room .entry)) r (now (room .exit)) ⌝ }
 {
     let mut n = 0;
     let mut i = prefix;
     while i < source.len() {
-        let c = source[i] as u32;
-        i += 1;
-        match digit::nibble(c) {
-            Maybe::Some(digit) => match push(room, n, radix, digit) {
-                Count::Words(m) => n = m,
-                Count::DontFit => return Count::DontFit,
-            },
-            Maybe::None => {}
+        let p = chunk_at(source, i, radix);
+        i = p.next;
+        match push(room, n, p.unit, p.value) {
+            Count::Words(m) => n = m,
+            Count::DontFit => return Count::DontFit,
         }
     }
     Count::Words(n)
 }
 
-// The same, by what is fastest.
+// The same; hexadecimal digits make limbs of their own.
 fn put(source: &[u8], prefix: usize, radix: u32, room: &mut [u32]) -> Count
-    requires { ⌜ 0 < radix ⌝ }
+    requires { ⌜ Radix radix ⌝ }
     ensures { λ r. ⌜ Put (limbs (digits radix 0 (drop prefix (now (source .entry))))) (now (room .entry)) r (now (room .exit)) ⌝ }
 {
     if radix == 16 {
         return hexadecimal::put(source, prefix, room);
     }
-    put_digits(source, prefix, radix, room)
+    put_chunks(source, prefix, radix, room)
 }
 
 // The value of a number, stored from word `at` on: where it ends.
 fn store(values: &mut [u32], at: usize, source: &[u8], prefix: usize, radix: u32) -> Count
-    requires { ⌜ 0 < radix ⌝ }
+    requires { ⌜ Radix radix ⌝ }
     ensures { λ r. ⌜ Kept (numberValue (digits radix 0 (drop prefix (now (source .entry))))) (now (values .entry)) at r (now (values .exit)) ⌝ }
 {
     if values.len() <= at {

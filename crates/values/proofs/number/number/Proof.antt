@@ -1,6 +1,6 @@
 -- `number` meets its contract, by case.
 use Rattle.reading.specs.Does.{stays}
-use Rattle.values.specs.Number.{radix-more, number-stored, number-refused}
+use Rattle.values.specs.Number.{radix-is, number-stored, number-refused}
 use borrow.Author.Needs.{needs}
 use Rattle.values.proofs.number.number.Statement.{statement}
 use Rattle.values.proofs.number.number.Tie as tie
@@ -15,7 +15,7 @@ radix-requires : tie.Need-radix-requires
 radix-requires c κs = search needs
 
 store-requires : tie.Need-store-requires
-store-requires c κs = rw (c .radix .ensures) (radix-more (c .before .before .before .before .before .before .before .before .before .before .before .args .base))
+store-requires c κs = rw (c .radix .ensures) (radix-is (c .before .before .before .before .before .before .before .before .before .before .before .args .base))
 
 enum-known-end : tie.Need-enum-known-end
 enum-known-end c = search needs

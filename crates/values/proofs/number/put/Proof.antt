@@ -12,8 +12,8 @@ same-length c = search needs
 returns : tie.Need-returns
 returns c = rw (c .before .before .before .before .if1 .taken) (c .before .before .put .ensures)
 
-put-digits-requires : tie.Need-put-digits-requires
-put-digits-requires c κs = search needs
+put-chunks-requires : tie.Need-put-chunks-requires
+put-chunks-requires c κs = search needs
 
 same-length-2 : tie.Need-same-length-2
 same-length-2 c = search needs
@@ -24,4 +24,4 @@ returns-2 c = search needs
 pub put-spec : {M : Type 1} → statement M
 put-spec =
     tie.close
-    (tie.spec put-requires same-length returns put-digits-requires same-length-2 returns-2)
+    (tie.spec put-requires same-length returns put-chunks-requires same-length-2 returns-2)
