@@ -1,6 +1,6 @@
 -- What the parser's functions are lent as the text: the text itself, or, where it has more bytes than any text, a copy of the text with a
 -- table of names behind it.
-use mathlib.Core.Path.{_≡_, refl}
+use mathlib.Core.Path.{_≡_}
 use mathlib.Core.Bool.{Bool, cond, _&&_, _||_}
 use mathlib.Core.List.{List}
 use Prim.Native.Nat.{ℕ, _+_, _*_, _≤_}
@@ -9,7 +9,7 @@ use lib.Dec.{eqb, ltb}
 use lib.ListN.{length, getD}
 use Rattle.words.specs.Token
 use Rattle.words.specs.Words.{tokenKind}
-use Rattle.literals.specs.Spelling.{wordAt, spelling, firstAlike}
+use Rattle.literals.specs.Spelling.{wordAt, firstAlike}
 
 -- No text has more bytes (01, Refusals), so the table begins there.
 abbrev pub tableStart : ℕ
@@ -34,11 +34,6 @@ isTold source tokens kind i = ltb tableStart (length source) && (ltb i tableEntr
 unfoldable pub firstOf : List ℕ → List ℕ → ℕ → ℕ → ℕ
 firstOf source tokens kind i = cond (isTold source tokens kind i) (entry source i) (firstAlike source tokens kind i)
 
--- A source stands for a text: tokens are spelled alike in both, and its table is right.
-pub record Annotates (source text tokens : List ℕ) : Type 0 where
-  pub spells : (i : ℕ) → spelling source tokens i ≡ spelling text tokens i
-  pub names : (kind i : ℕ) → firstOf source tokens kind i ≡ firstAlike text tokens kind i
-
 -- The table of a source is right: it says what looking at all tokens finds.
 abbrev pub Right : List ℕ → List ℕ → Type 0
 Right source tokens = (kind i : ℕ) → firstOf source tokens kind i ≡ firstAlike source tokens kind i
@@ -47,8 +42,3 @@ Right source tokens = (kind i : ℕ) → firstOf source tokens kind i ≡ firstA
 pub plain-right : (text tokens : List ℕ) → length text ≤ tableStart → Right text tokens
 unfolding firstOf isTold
 plain-right text tokens h kind i = rw (le-ltb tableStart (length text) h)
-
--- A text stands for itself.
-pub itself : (text tokens : List ℕ) → length text ≤ tableStart → Annotates text text tokens
-unfolding firstOf isTold
-itself text tokens h = record { spells = λ i. refl; names = λ kind i. rw (le-ltb tableStart (length text) h) }
