@@ -2,6 +2,7 @@
 
 mod literals;
 mod mutate;
+mod names;
 mod nests;
 mod non_utf8;
 mod parsing;
@@ -13,6 +14,7 @@ mod sized;
 mod soup;
 mod stretch;
 
+pub use names::NameTexts;
 pub use nests::nests;
 pub use parsing::ParseTexts;
 pub use rng::Rng;

@@ -37,7 +37,7 @@ pub fn texts_around_the_limit() -> impl Iterator<Item = Vec<u8>> {
 }
 
 /// What stands before, what fills, and what stands behind.
-const LONG: [(&str, &str, &str); 20] = [
+const LONG: [(&str, &str, &str); 22] = [
     ("", "const a = 1; ", ""),
     ("init { ", "a; ", "}"),
     ("init { ", "a ", "}"),
@@ -58,6 +58,9 @@ const LONG: [(&str, &str, &str); 20] = [
     ("const a = match b {", "1=>2,", "};"),
     ("use a::{", "b,", "};"),
     ("const a = ", "#", ";"),
+    // The most tokens; the last before Eof is a name, seen before or not.
+    ("", ";a", ""),
+    ("", ";a", ";b"),
 ];
 
 /// Texts as long as may be, inside one declaration.

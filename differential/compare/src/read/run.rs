@@ -10,7 +10,7 @@ use crate::{
     },
     run::{Run, in_a_thread},
 };
-use generate::{ParseTexts, Texts, long_texts, nests, short_rows, texts_around_the_limit};
+use generate::{NameTexts, ParseTexts, Texts, long_texts, nests, short_rows, texts_around_the_limit};
 use std::{fmt, process::ExitCode};
 
 pub fn run(options: &ReadOptions) -> ExitCode {
@@ -31,6 +31,8 @@ fn run_all(options: &ReadOptions) -> ExitCode {
     all("generated", &mut generated.map(String::into_bytes));
     all("nests", &mut nests().map(String::into_bytes));
     all("short rows", &mut short_rows().map(String::into_bytes));
+    let named = NameTexts::new(options.seed).take(options.texts / 500);
+    all("with many names", &mut named.map(String::into_bytes));
     let limit_texts = texts_around_the_limit();
     all("as long as may be", &mut long_texts().map(String::into_bytes).chain(limit_texts));
     all("generated, of any bytes", &mut Texts::new(options.seed).take(options.texts / 2));
