@@ -54,10 +54,17 @@ fn char_at(w: &[u8], i: usize) -> Char
     requires { ⌜ i < length (now w) ⌝ }
     ensures { λ r. ⌜ Standing (now (w .entry)) i (r .code) (r .end) ⌝ }
 {
+    let b = w[i];
+    if b < 128 {
+        return Char {
+            code: b as u32,
+            end: i + 1,
+        };
+    }
     match utf8::character_at(w, i) {
         Character::Is(code, n) => Char { code, end: i + n },
         Character::Nothing => Char {
-            code: w[i] as u32,
+            code: b as u32,
             end: i + 1,
         },
     }
