@@ -11,7 +11,7 @@ use lib.ListN.{length, getD, set, replicate, length-set, length-replicate, getD-
 use lib.Seq.{getD-set-same, getD-set-other}
 use Rattle.lexer.specs.Lex.{spellingOf}
 use Rattle.spellings.specs.Spelled.{spelled}
-use Rattle.reading.specs.Source.{entry}
+use Rattle.reading.specs.Source.{tableEntries, entry}
 use Rattle.interner.specs.Alike.{firstName, matches, same-first}
 use Rattle.interner.specs.Hash.{buckets, hash}
 use Rattle.interner.specs.Chain.{nameAt, bucket, lastWith, last-low, Past, past-name, past-next}
@@ -114,7 +114,7 @@ module _ (text tokens : List ℕ) where
       pub head-is : (heads : List ℕ) → Heads heads n → (head : ℕ) → head ≡ getD heads h 0 → head ≡ lastWith text tokens (bucket text tokens n) n
       head-is heads s head g = g ∙ (s .newest h small ∙ ap (λ (x : ℕ). lastWith text tokens x n) e)
 
-      pub state-more : (source heads links : List ℕ) (first : ℕ) → first ≡ firstName text tokens n → n < length links → n < 65535 → (told : List ℕ) → told ≡ written source n first
+      pub state-more : (source heads links : List ℕ) (first : ℕ) → first ≡ firstName text tokens n → n < length links → n < tableEntries → (told : List ℕ) → told ≡ written source n first
           → State source heads links n → State told (set heads h (n + 1)) (set links n (getD heads h 0)) (n + 1)
       state-more source heads links first f l m told r s =
           rw r

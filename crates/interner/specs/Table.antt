@@ -17,7 +17,7 @@ use Rattle.interner.specs.Chain.{nameAt}
 
 -- A source has room for the longest text, and for two bytes of each token that the table tells of.
 abbrev pub sourceLength : ℕ
-sourceLength = 196608
+sourceLength = 131072
 
 -- A source stands for a text: tokens are spelled alike in both, so the same ones are the first, and its table is right.
 pub record Annotates (source text tokens : List ℕ) : Type 0 where
@@ -93,14 +93,6 @@ module _ (text tokens source : List ℕ) where
           go : (b : Bool) → eqb j n ≡ b → entry (written source n first) j ≡ firstName text tokens j
           go true q = let z : j ≡ n = eqb-true j n q in rw z (entry-same source n first (t .long) l ∙ e)
           go false q = entry-other source n first j (eqb-false j n q) ∙ t .right j (omega (arith, eqb-false j n q)) f
-
-  -- The last token of the table, whose first is looked for among all tokens.
-  module _ (k : ℕ) (e : k ≡ kindAt tokens 65535) (first : ℕ) (f : first ≡ firstAlike text tokens k 65535) where
-    pub last-first : first ≡ firstName text tokens 65535
-    last-first = f ∙ ap (λ (x : ℕ). firstAlike text tokens x 65535) e
-
-    pub table-last : (told : List ℕ) → told ≡ written source 65535 first → Table text tokens source 65535 → Table text tokens told tableEntries
-    table-last told r t = rw r (table-more 65535 first (omega arith) last-first t)
 
   -- Past the tokens there is no name.
   pub table-over : (n m : ℕ) → length tokens ≤ n → Table text tokens source n → Table text tokens source m

@@ -14,9 +14,6 @@ use crate::table;
 
 const BUCKETS: usize = 8192;
 
-// The tokens that are chained: a token's number and one more are 16 bits.
-const CHAINED: usize = 65535;
-
 // The tokens of a short text.
 const FEW: usize = 4096;
 
@@ -70,7 +67,7 @@ fn add(
     links: &mut [u16],
     i: usize,
 )
-    requires { ⌜ (i < length (now tokens)) × (i < 65535) × (i < length (now links)) × (nameAt (now tokens) i ≡ true) ⌝ }
+    requires { ⌜ (i < length (now tokens)) × (i < 32768) × (i < length (now links)) × (nameAt (now tokens) i ≡ true) ⌝ }
     requires { ⌜ State (now text) (now tokens) (now source) (now heads) (now links) i ⌝ }
     ensures { λ _. ⌜ State (now (text .entry)) (now (tokens .entry)) (now (source .exit)) (now (heads .exit)) (now (links .exit)) (i + 1) ⌝ }
 {
@@ -91,7 +88,7 @@ fn step(
     links: &mut [u16],
     i: usize,
 )
-    requires { ⌜ (i < length (now tokens)) × (i < 65535) × (i < length (now links)) ⌝ }
+    requires { ⌜ (i < length (now tokens)) × (i < 32768) × (i < length (now links)) ⌝ }
     requires { ⌜ State (now text) (now tokens) (now source) (now heads) (now links) i ⌝ }
     ensures { λ _. ⌜ State (now (text .entry)) (now (tokens .entry)) (now (source .exit)) (now (heads .exit)) (now (links .exit)) (i + 1) ⌝ }
 {
@@ -109,7 +106,7 @@ fn fill(
     links: &mut [u16],
     n: usize,
 )
-    requires { ⌜ (n ≤ length (now tokens)) × (n ≤ 65535) × (n ≤ length (now links)) ⌝ }
+    requires { ⌜ (n ≤ length (now tokens)) × (n ≤ 32768) × (n ≤ length (now links)) ⌝ }
     requires { ⌜ State (now text) (now tokens) (now source) (now heads) (now links) 0 ⌝ }
     ensures { λ _. ⌜ Table (now (text .entry)) (now (tokens .entry)) (now (source .exit)) n ⌝ }
 {
@@ -117,19 +114,6 @@ fn fill(
     while i < n {
         step(text, tokens, source, heads, links, i);
         i += 1;
-    }
-}
-
-// The token that is not chained: it is the last of the table, so no later one is looked up.
-fn last(text: &[u8], tokens: &[u32], source: &mut [u8])
-    requires { ⌜ 65535 < length (now tokens) ⌝ }
-    requires { ⌜ Table (now text) (now tokens) (now source) 65535 ⌝ }
-    ensures { λ _. ⌜ Table (now (text .entry)) (now (tokens .entry)) (now (source .exit)) tableEntries ⌝ }
-{
-    let kind = spellings::kind_at(tokens, CHAINED);
-    if table::is_name(kind) {
-        let first = spellings::first_alike(text, tokens, kind, CHAINED as u32);
-        table::put(source, CHAINED, first);
     }
 }
 
@@ -146,16 +130,16 @@ fn few(text: &[u8], tokens: &[u32], source: &mut [u8], n: usize)
 
 // The tokens before `n`.
 fn many(text: &[u8], tokens: &[u32], source: &mut [u8], n: usize)
-    requires { ⌜ (n ≤ length (now tokens)) × (n ≤ 65535) ⌝ }
+    requires { ⌜ (n ≤ length (now tokens)) × (n ≤ 32768) ⌝ }
     requires { ⌜ Table (now text) (now tokens) (now source) 0 ⌝ }
     ensures { λ _. ⌜ Table (now (text .entry)) (now (tokens .entry)) (now (source .exit)) n ⌝ }
 {
     let mut heads = [0u16; BUCKETS];
-    let mut links = [0u16; CHAINED];
+    let mut links = [0u16; table::ENTRIES];
     fill(text, tokens, source, &mut heads, &mut links, n);
 }
 
-// The whole table, of all tokens.
+// The whole table.
 pub(crate) fn tell(text: &[u8], tokens: &[u32], source: &mut [u8])
     requires { ⌜ Table (now text) (now tokens) (now source) 0 ⌝ }
     ensures { λ _. ⌜ Table (now (text .entry)) (now (tokens .entry)) (now (source .exit)) tableEntries ⌝ }
@@ -165,10 +149,9 @@ pub(crate) fn tell(text: &[u8], tokens: &[u32], source: &mut [u8])
         few(text, tokens, source, n);
         return;
     }
-    if n <= CHAINED {
+    if n <= table::ENTRIES {
         many(text, tokens, source, n);
         return;
     }
-    many(text, tokens, source, CHAINED);
-    last(text, tokens, source);
+    many(text, tokens, source, table::ENTRIES);
 }

@@ -12,7 +12,7 @@ mod chains;
 mod table;
 
 // The bytes of a source that has a table.
-pub const SOURCE_BYTES: usize = 196608;
+pub const SOURCE_BYTES: usize = 131072;
 
 // Whether there is a table, and token `i` is a name of this kind that it tells of.
 fn told(source: &[u8], tokens: &[u32], kind: u32, i: usize) -> bool

@@ -10,7 +10,7 @@ use words::token;
 pub(crate) const START: usize = 65536;
 
 // Tokens from this one on are not in the table.
-pub(crate) const ENTRIES: usize = 65536;
+pub(crate) const ENTRIES: usize = 32768;
 
 pub(crate) fn is_name(kind: u32) -> bool
     ensures { λ r. ⌜ r ≡ isName kind ⌝ }
@@ -39,7 +39,7 @@ fn byte(source: &[u8], n: usize) -> usize
 
 // What the table says of token `i`.
 pub(crate) fn get(source: &[u8], i: usize) -> usize
-    requires { ⌜ i < 65536 ⌝ }
+    requires { ⌜ i < 32768 ⌝ }
     ensures { λ r. ⌜ r ≡ entry (now (source .entry)) i ⌝ }
 {
     let at = START + 2 * i;
@@ -48,7 +48,7 @@ pub(crate) fn get(source: &[u8], i: usize) -> usize
 
 // The table is told of token `i`.
 pub(crate) fn put(source: &mut [u8], i: usize, first: usize)
-    requires { ⌜ (length (now source) ≡ sourceLength) × (i < 65536) × (first < 65536) ⌝ }
+    requires { ⌜ (length (now source) ≡ sourceLength) × (i < 32768) × (first < 65536) ⌝ }
     ensures { λ _. ⌜ now (source .exit) ≡ written (now (source .entry)) i first ⌝ }
 {
     let at = START + 2 * i;

@@ -15,9 +15,9 @@ use Rattle.literals.specs.Spelling.{wordAt, firstAlike}
 abbrev pub tableStart : ℕ
 tableStart = 65536
 
--- Tokens from this one on are not in the table.
+-- Tokens from this one on are not in the table: few texts have so many, and the table lies on the stack.
 abbrev pub tableEntries : ℕ
-tableEntries = 65536
+tableEntries = 32768
 
 -- What the table says of token `i`: two bytes, the low one first.
 abbrev pub entry : List ℕ → ℕ → ℕ

@@ -12,7 +12,7 @@ same-length : tie.Need-same-length
 same-length c = search needs
 
 returns : tie.Need-returns
-returns c = table-over _ _ _ _ 65536 (omega arith) (c .before .before .few .ensures)
+returns c = table-over _ _ _ _ 32768 (omega arith) (c .before .before .few .ensures)
 
 many-requires : tie.Need-many-requires
 many-requires c κs = search needs
@@ -21,13 +21,10 @@ same-length-2 : tie.Need-same-length-2
 same-length-2 c = search needs
 
 returns-2 : tie.Need-returns-2
-returns-2 c = table-over _ _ _ _ 65536 (omega arith) (c .before .before .many .ensures)
+returns-2 c = table-over _ _ _ _ 32768 (omega arith) (c .before .before .many .ensures)
 
 many-requires-2 : tie.Need-many-requires-2
 many-requires-2 c κs = search needs
-
-last-requires : tie.Need-last-requires
-last-requires c κs = search needs
 
 same-length-3 : tie.Need-same-length-3
 same-length-3 c = search needs
@@ -46,6 +43,5 @@ tell-spec =
     same-length-2
     returns-2
     many-requires-2
-    last-requires
     same-length-3
     returns-3)
