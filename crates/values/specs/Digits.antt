@@ -1,11 +1,12 @@
 -- What a character counts as a digit, by where it stands.
 use mathlib.Core.Path.{_≡_, refl, _∙_}
-use mathlib.Core.Bool.{false, true, _&&_, and-false}
+use mathlib.Core.Logic.{_⊎_, inl, inr, ⊎-elim}
+use mathlib.Core.Bool.{Bool, false, true, _&&_, and-false}
 use mathlib.Core.Option.{none, some}
-use Prim.Native.Nat.{ℕ, _+_, _-_, _≤_, _<_}
+use Prim.Native.Nat.{ℕ, _+_, _-_, _%_, _≤_, _<_}
 use native.Mathlib.Omega.{arith}
-use borrow.Author.Tests.{le-leb, lt-leb}
-use lib.Dec.{leb}
+use borrow.Author.Tests.{le-leb, lt-leb, ltb-true, ltb-false}
+use lib.Dec.{leb, ltb}
 use Rattle.literals.specs.Numbers.{nibble}
 
 module _ (c : ℕ) where
@@ -45,3 +46,39 @@ module _ (c : ℕ) where
   pub over-letters : 102 < c → none ≡ nibble c
   unfolding nibble
   over-letters h = rw (above 48 57 (omega arith), above 65 70 (omega arith), above 97 102 h)
+
+-- ---- digits and letters in one go
+
+-- What a digit counts, and a letter from A or a on, of characters from 48 on.
+pub record Worth (c r : ℕ) : Type 0 where
+  pub low : c ≤ 57 → r ≡ c - 48
+  pub high : 57 < c → r ≡ (c - 1) % 32 + 10
+
+apart : (c k : ℕ) → (c < k) ⊎ (k ≤ c)
+apart c k = go (ltb c k) refl
+  where
+    go : (t : Bool) → ltb c k ≡ t → (c < k) ⊎ (k ≤ c)
+    go true e = inl (ltb-true c k e)
+    go false e = inr (ltb-false c k e)
+
+module _ (c r : ℕ) (w : Worth c r) (least : 48 ≤ c) (most : c ≤ 127) where
+  pub worth-some : r ≤ 15 → some r ≡ nibble c
+  worth-some h =
+      ⊎-elim
+      (λ a. let e : r ≡ c - 48 = w .low (omega arith) in rw e (is-digit c least (omega arith)))
+      (λ a.
+      let e : r ≡ (c - 1) % 32 + 10 = w .high (omega arith) in
+      ⊎-elim
+      (λ b. let f : r ≡ c - 65 + 10 = omega arith in rw f (is-capital c (omega arith) (omega arith)))
+      (λ b. let f : r ≡ c - 97 + 10 = omega arith in rw f (is-letter c (omega arith) (omega arith)))
+      (apart c 71))
+      (apart c 58)
+
+  pub worth-none : 15 < r → none ≡ nibble c
+  worth-none h =
+      let g : 57 < c = ⊎-elim (λ a. omega (arith, w .low (omega arith))) (λ a. omega arith) (apart c 58) in
+      let e : r ≡ (c - 1) % 32 + 10 = w .high g in
+      ⊎-elim
+      (λ a. under-capitals c g a)
+      (λ a. ⊎-elim (λ b. under-letters c (omega arith) b) (λ b. over-letters c (omega arith)) (apart c 97))
+      (apart c 65)
