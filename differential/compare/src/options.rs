@@ -73,7 +73,7 @@ impl LexOptions {
 
 impl ReadOptions {
     fn read(arguments: impl Iterator<Item = String>) -> Result<ReadOptions, String> {
-        fault_options(arguments, 200_000, &read::FAULTS)
+        fault_options(arguments, 80_000, &read::FAULTS)
     }
 }
 
