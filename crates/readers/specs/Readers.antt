@@ -10,7 +10,7 @@ use Rattle.definition.specs.declared.Unfinished.{Unfinished}
 use Rattle.definition.specs.Prog.{Turn, again, stop, Prog, give, _>>=_, _>>_, if_then_else_, position}
 use Rattle.definition.specs.Tokens.{check, eat, ifEat_then_else_, ifCheck_then_else_, expect}
 use Rattle.definition.specs.Nodes.{closeNode, pushChild}
-use Rattle.definition.specs.Expressions.{parseExpr, ElseIfs, fallbackArm, keyedArm, Members, fieldTurn, noMemberTurn}
+use Rattle.definition.specs.Expressions.{parseExpr, blockHere, ElseIfs, fallbackArm, keyedArm, Members, fieldTurn, noMemberTurn}
 use Rattle.reading.specs.declared.Reading.{Reading}
 use Rattle.reading.specs.declared.Got.{Got}
 use Rattle.reading.specs.declared.Found.{Found}
@@ -24,6 +24,13 @@ use Rattle.answers.specs.Steps.{endArm, armTurn}
 -- A refusal, unless there was one before.
 abbrev pub tooDeep : Reading → Reading
 tooDeep s = cond (eqb (s .refusal) 0) (refusedAt s Refusal.TooDeep) s
+
+-- What follows an expression that no `{` goes on from: its block.
+abbrev pub tailOf : Unfinished → ℕ → Prog Unfinished
+tailOf u test = do
+  u ← pushChild u test
+  body ← blockHere
+  pushChild u body
 
 -- A node that was found.
 abbrev pub found : Got → Found

@@ -12,8 +12,8 @@ ghost use Rattle.reading.specs.Does.{Does};
 ghost use Rattle.stream.specs.Delimited.{elements};
 ghost use Rattle.cst.specs.Cst.{maybe};
 ghost use Rattle.answers.specs.Parts.{element, stmtResult};
-ghost use Rattle.answers.specs.Programs.{guarded, branching, indexed, typing, postfixSteps};
-ghost use Rattle.readers.specs.Readers.{tooDeep, fieldOrNone, armHead, armRest, armTurnOf, elseIfs, found, wholeStmt};
+ghost use Rattle.answers.specs.Programs.{branching, indexed, typing, postfixSteps};
+ghost use Rattle.readers.specs.Readers.{tooDeep, tailOf, fieldOrNone, armHead, armRest, armTurnOf, elseIfs, found, wholeStmt};
 use answers::After;
 use answers::Brackets;
 use answers::Element;
@@ -101,11 +101,17 @@ pub fn expr(
     let e = d - 1;
     let head = steps::prefix(e, s, text, tokens, nodes, values, reports);
     let it = head.it;
-    let first = match it {
+    let at = head.at;
+    // One variable for what is read, as each takes its room on the stack at every level.
+    let mut found = Found {
+        it: Maybe::None,
+        at,
+    };
+    match it {
         Element::More(u) => {
-            let right = expr(
+            found = expr(
                 e,
-                head.at,
+                found.at,
                 text,
                 tokens,
                 nodes,
@@ -114,16 +120,18 @@ pub fn expr(
                 mode,
                 Reading::UNARY_PRIORITY,
             );
-            let it = right.it;
-            steps::close_unary(e, right.at, text, tokens, nodes, values, reports, u, it)
+            let it = found.it;
+            found = steps::close_unary(e, found.at, text, tokens, nodes, values, reports, u, it);
         }
-        Element::Missing => atom(e, head.at, text, tokens, nodes, values, reports),
-    };
-    let mut at = first.at;
-    let it = first.it;
+        Element::Missing => {
+            found = atom(e, found.at, text, tokens, nodes, values, reports);
+        }
+    }
+    let mut at = found.at;
+    let it = found.it;
     let mut left = match it {
         Maybe::Some(n) => n,
-        Maybe::None => return first,
+        Maybe::None => return found,
     };
     let mut turns = turns_of(tokens);
     while 0 < turns {
@@ -131,7 +139,7 @@ pub fn expr(
             break;
         }
         turns -= 1;
-        let after = post(
+        found = post(
             e,
             at,
             text,
@@ -144,16 +152,16 @@ pub fn expr(
             head.start,
             left,
         );
-        let it = after.it;
+        let it = found.it;
         match it {
             Maybe::Some(n) => {
                 left = n;
-                at = after.at;
+                at = found.at;
             }
             Maybe::None => {
                 let infix = steps::infix(
                     e,
-                    after.at,
+                    found.at,
                     text,
                     tokens,
                     nodes,
@@ -168,7 +176,7 @@ pub fn expr(
                 match it {
                     Element::Missing => break,
                     Element::More(u) => {
-                        let right = expr(
+                        found = expr(
                             e,
                             at,
                             text,
@@ -179,10 +187,10 @@ pub fn expr(
                             mode,
                             infix.right,
                         );
-                        let it = right.it;
+                        let it = found.it;
                         let n = parts::close_operand(
                             e,
-                            right.at,
+                            found.at,
                             text,
                             tokens,
                             nodes,
@@ -232,8 +240,8 @@ pub fn must(
     parts::unwrap_or_error(d, found.at, text, tokens, nodes, values, reports, it)
 }
 
-// An expression that no `{` goes on from, and a block: what follows `if`, `while` and a function's parameters.
-fn test(
+// After an expression that no `{` goes on from, its block: what follows `if`, `while` and a function's parameters.
+fn tail(
     d: u32,
     s: Reading,
     text: &[u8],
@@ -242,20 +250,11 @@ fn test(
     values: &mut [u32],
     reports: &mut [u32],
     u: Unfinished,
+    n: u32,
 ) -> Opened
-    ensures { λ r. ⌜ Does (now (text .entry)) (now (tokens .entry)) d (guarded u) s (memory (now (nodes .entry)) (now (values .entry)) (now (reports .entry))) (r .it) (r .at) (memory (now (nodes .exit)) (now (values .exit)) (now (reports .exit))) ⌝ }
+    ensures { λ r. ⌜ Does (now (text .entry)) (now (tokens .entry)) d (tailOf u n) s (memory (now (nodes .entry)) (now (values .entry)) (now (reports .entry))) (r .it) (r .at) (memory (now (nodes .exit)) (now (values .exit)) (now (reports .exit))) ⌝ }
 {
-    let test = must(
-        d,
-        s,
-        text,
-        tokens,
-        nodes,
-        values,
-        reports,
-        Mode::NoPostFixCurlyBrace,
-    );
-    let u = push_child(d, test.at, text, tokens, nodes, values, reports, u, test.it);
+    let u = push_child(d, s, text, tokens, nodes, values, reports, u, n);
     let at = u.at;
     let state = at.state;
     let cursor = state.cursor;
@@ -363,24 +362,32 @@ fn atom(
         return one;
     }
     let first = steps::eat_first(d, one.at, text, tokens, nodes, values, reports, &OPERANDS);
-    let at = first.at;
     let it = first.it;
+    let at = first.at;
+    // One variable for all nodes, as in `expr`.
+    let mut n = Got { it: 0, at };
     match it {
-        0 => some(paren(d, at, text, tokens, nodes, values, reports, start)),
-        1 => some(block(
-            d,
-            at,
-            text,
-            tokens,
-            nodes,
-            values,
-            reports,
-            start,
-            node::COMPTIME_BLOCK,
-        )),
+        0 => {
+            n = paren(d, n.at, text, tokens, nodes, values, reports, start);
+            some(n)
+        }
+        1 => {
+            n = block(
+                d,
+                n.at,
+                text,
+                tokens,
+                nodes,
+                values,
+                reports,
+                start,
+                node::COMPTIME_BLOCK,
+            );
+            some(n)
+        }
         2 => {
-            let keyword = expect(d, at, text, tokens, nodes, values, reports, token::FN);
-            some(func(
+            let keyword = expect(d, n.at, text, tokens, nodes, values, reports, token::FN);
+            n = func(
                 d,
                 keyword.at,
                 text,
@@ -390,12 +397,22 @@ fn atom(
                 reports,
                 start,
                 true,
-            ))
+            );
+            some(n)
         }
-        3 => some(func(d, at, text, tokens, nodes, values, reports, start, false)),
-        4 => some(strct(d, at, text, tokens, nodes, values, reports, start)),
-        5 => some(tys(d, at, text, tokens, nodes, values, reports, start)),
-        _ => fork(d, at, text, tokens, nodes, values, reports),
+        3 => {
+            n = func(d, n.at, text, tokens, nodes, values, reports, start, false);
+            some(n)
+        }
+        4 => {
+            n = strct(d, n.at, text, tokens, nodes, values, reports, start);
+            some(n)
+        }
+        5 => {
+            n = tys(d, n.at, text, tokens, nodes, values, reports, start);
+            some(n)
+        }
+        _ => fork(d, n.at, text, tokens, nodes, values, reports),
     }
 }
 
@@ -638,8 +655,8 @@ fn meth(
 ) -> Got
     ensures { λ r. ⌜ Does (now (text .entry)) (now (tokens .entry)) d parseMethodDef s (memory (now (nodes .entry)) (now (values .entry)) (now (reports .entry))) (r .it) (r .at) (memory (now (nodes .exit)) (now (values .exit)) (now (reports .exit))) ⌝ }
 {
-    let u = stages::open_method(d, s, text, tokens, nodes, values, reports);
-    let u = sig(d, u.at, text, tokens, nodes, values, reports, u.it);
+    let mut u = stages::open_method(d, s, text, tokens, nodes, values, reports);
+    u = sig(d, u.at, text, tokens, nodes, values, reports, u.it);
     close_node(d, u.at, text, tokens, nodes, values, reports, u.it)
 }
 
@@ -680,7 +697,27 @@ fn sig(
         list.it,
         u,
     );
-    test(d, u.at, text, tokens, nodes, values, reports, u.it)
+    let test = must(
+        d,
+        u.at,
+        text,
+        tokens,
+        nodes,
+        values,
+        reports,
+        Mode::NoPostFixCurlyBrace,
+    );
+    tail(
+        d,
+        test.at,
+        text,
+        tokens,
+        nodes,
+        values,
+        reports,
+        u.it,
+        test.it,
+    )
 }
 
 // The parameters, without the brackets around them.
@@ -1426,7 +1463,27 @@ fn cond(
         node::IF,
         0,
     );
-    let u = test(d, u.at, text, tokens, nodes, values, reports, u.it);
+    let test = must(
+        d,
+        u.at,
+        text,
+        tokens,
+        nodes,
+        values,
+        reports,
+        Mode::NoPostFixCurlyBrace,
+    );
+    let u = tail(
+        d,
+        test.at,
+        text,
+        tokens,
+        nodes,
+        values,
+        reports,
+        u.it,
+        test.it,
+    );
     let list = open_here(
         d,
         u.at,
@@ -1541,7 +1598,27 @@ fn elif(
         node::ELSE_IF_BRANCH,
         0,
     );
-    let u = test(d, u.at, text, tokens, nodes, values, reports, u.it);
+    let test = must(
+        d,
+        u.at,
+        text,
+        tokens,
+        nodes,
+        values,
+        reports,
+        Mode::NoPostFixCurlyBrace,
+    );
+    let u = tail(
+        d,
+        test.at,
+        text,
+        tokens,
+        nodes,
+        values,
+        reports,
+        u.it,
+        test.it,
+    );
     let n = close_node(d, u.at, text, tokens, nodes, values, reports, u.it);
     push_child(d, n.at, text, tokens, nodes, values, reports, list, n.it)
 }
@@ -1829,7 +1906,27 @@ fn rep(
     ensures { λ r. ⌜ Does (now (text .entry)) (now (tokens .entry)) d (whileStmt start kind) s (memory (now (nodes .entry)) (now (values .entry)) (now (reports .entry))) (r .it) (r .at) (memory (now (nodes .exit)) (now (values .exit)) (now (reports .exit))) ⌝ }
 {
     let u = open_from(d, s, text, tokens, nodes, values, reports, start, kind, 0);
-    let u = test(d, u.at, text, tokens, nodes, values, reports, u.it);
+    let test = must(
+        d,
+        u.at,
+        text,
+        tokens,
+        nodes,
+        values,
+        reports,
+        Mode::NoPostFixCurlyBrace,
+    );
+    let u = tail(
+        d,
+        test.at,
+        text,
+        tokens,
+        nodes,
+        values,
+        reports,
+        u.it,
+        test.it,
+    );
     close_node(d, u.at, text, tokens, nodes, values, reports, u.it)
 }
 
