@@ -4,6 +4,7 @@ mod answer;
 mod chart;
 mod check;
 mod fault;
+mod fuzzed;
 mod library;
 mod options;
 mod read;

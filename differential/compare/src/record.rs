@@ -3,9 +3,11 @@
 //! All numbers are 4 bytes, least first: the number of records; then for each the length of
 //! the text, its bytes padded with 0 to a multiple of 4, the number of tokens, their words.
 
+use crate::fuzzed;
 use generate::{TOKENS, Texts};
 use std::{collections::HashSet, fs, path::Path, process::ExitCode};
 
+/// So many besides those that fuzzing found.
 const RECORDS: usize = 400;
 const LONGEST_TEXT: usize = 1500;
 const SEED: u64 = 1;
@@ -40,14 +42,15 @@ pub fn save(file: &Path, records: usize, bytes: &[u8]) -> ExitCode {
 }
 
 /// The corners, each spelling of a token alone, and generated texts that are not too long,
-/// each text once.
+/// each text once; then those that fuzzing found.
 fn sample() -> Vec<String> {
     let generated = Texts::new(SEED)
         .filter(|text| text.len() <= LONGEST_TEXT)
         .filter_map(|text| String::from_utf8(text).ok());
     let chosen = CORNERS.iter().chain(TOKENS).map(|text| text.to_string());
     let mut seen = HashSet::new();
-    chosen.chain(generated).filter(|text| seen.insert(text.clone())).take(RECORDS).collect()
+    let texts = chosen.chain(generated).filter(|text| seen.insert(text.clone())).take(RECORDS);
+    texts.chain(fuzzed::LEXED.iter().map(|text| text.to_string())).collect()
 }
 
 fn encode(texts: &[String]) -> Vec<u8> {
@@ -71,6 +74,9 @@ pub fn number(value: usize) -> [u8; 4] {
 mod tests {
     use super::*;
 
+    /// More the replaying program doesn't take.
+    const LONGEST_DATA: usize = 131_072;
+
     #[test]
     fn the_sample_has_every_kind_of_token() {
         let kinds: HashSet<u32> =
@@ -80,8 +86,8 @@ mod tests {
 
     #[test]
     fn the_sample_is_small() {
-        assert_eq!(sample().len(), RECORDS);
-        assert!(encode(&sample()).len() <= 150_000);
+        assert_eq!(sample().len(), RECORDS + fuzzed::LEXED.len());
+        assert!(encode(&sample()).len() <= LONGEST_DATA);
     }
 
     #[test]

@@ -6,6 +6,7 @@
 //! and report words are lent, and the refusal's number and place; 0 and 0 where it is done.
 
 use crate::{
+    fuzzed,
     read::{corners::CORNERS, features::features, lengths::lengths},
     record::{number, save},
 };
@@ -13,6 +14,7 @@ use generate::ParseTexts;
 use oracle::{End, Lengths, Refusal, Run, Words};
 use std::{collections::HashSet, panic, path::Path, process::ExitCode};
 
+/// So many bytes without those texts that fuzzing found.
 const MOST_BYTES: usize = 190_000;
 const LONGEST_TEXT: usize = 300;
 const GENERATED: usize = 12_000;
@@ -28,9 +30,16 @@ pub fn write(file: &Path) -> ExitCode {
     save(file, records.len(), &encode(&records))
 }
 
+/// The chosen and generated texts, then those that fuzzing found.
+fn sample() -> Vec<Record> {
+    let mut records = chosen_and_generated();
+    records.extend(fuzzed::PARSED.iter().filter_map(|text| Record::of(text)));
+    records
+}
+
 /// The corners, then every text of a large pool that shows something new, as long as there is
 /// room.
-fn sample() -> Vec<Record> {
+fn chosen_and_generated() -> Vec<Record> {
     let corners = CORNERS.iter().map(|text| text.to_string()).chain(deep_texts());
     let mut records: Vec<Record> = corners.filter_map(|text| Record::of(&text)).collect();
     records.push(last_backslash());
@@ -141,6 +150,9 @@ mod tests {
 
     static SAMPLE: LazyLock<Vec<Record>> = LazyLock::new(sample);
 
+    /// More the replaying program doesn't take.
+    const LONGEST_DATA: usize = 196_608;
+
     fn node_heads(records: &[Record]) -> HashSet<u32> {
         let trees = records.iter().filter_map(|record| match &record.run.end {
             End::Read(words) => Some(&words.nodes),
@@ -183,7 +195,13 @@ mod tests {
     #[test]
     fn the_sample_is_small() {
         assert!((300..1000).contains(&SAMPLE.len()));
-        assert!(encode(&SAMPLE).len() <= MOST_BYTES);
+        assert!(encode(&SAMPLE).len() <= LONGEST_DATA);
+    }
+
+    #[test]
+    fn the_sample_ends_with_every_text_that_fuzzing_found() {
+        let texts: Vec<&str> = SAMPLE.iter().map(|record| record.text.as_str()).collect();
+        assert!(texts.ends_with(fuzzed::PARSED));
     }
 
     #[test]
