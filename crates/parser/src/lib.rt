@@ -61,8 +61,8 @@ fn begin(tokens: &[u32]) -> Reading
 // "Depth is the number of `try_parse_expr_min_bp` and `parse_block` readings open at one moment; entering the 257th is refusal 3" (01).
 const MAX_DEPTH: u32 = 256;
 
-// Texts up to this length are parsed as they are: to look at all tokens for each name takes less time than to make a table.
-const SHORT_TEXT: usize = 2048;
+// Texts of up to so many tokens are parsed as they are: to look at all tokens for each name takes less time than to make a table.
+const FEW_TOKENS: usize = 256;
 
 // The text, or the text with a table of names behind it, is parsed.
 fn parse_source(
@@ -125,7 +125,7 @@ pub fn parse(
         clear(reports);
         return Parsed::Refused(refusal::TOO_LONG, LONGEST_TEXT as u32);
     }
-    if text.len() <= SHORT_TEXT {
+    if tokens.len() <= FEW_TOKENS {
         return parse_source(text, tokens, nodes, values, reports);
     }
     parse_long(text, tokens, nodes, values, reports)

@@ -42,7 +42,7 @@ fn times(limbs: &mut [u32], radix: u32, digit: u32) -> u32
     carry
 }
 
-// One digit more to the number whose `n` limbs stand in front of `room`.
+// One digit more, or some that make one of a larger radix, to the number whose `n` limbs stand in front of `room`.
 fn push(room: &mut [u32], n: usize, radix: u32, digit: u32) -> Count
     requires { ⌜ n ≤ length (now room) ⌝ }
     ensures { λ r. ⌜ Pushed radix digit (now (room .entry)) n r (now (room .exit)) ⌝ }

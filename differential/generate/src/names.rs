@@ -1,9 +1,6 @@
-//! Long texts with many names. The library makes a table of names for texts of more than 2,048 bytes.
+//! Texts with many names. The library makes a table of names for texts of more than 256 tokens.
 
 use crate::Rng;
-
-/// The lengths around which the library goes over to its table.
-const AROUND: [usize; 3] = [2_047, 2_048, 2_049];
 
 /// From how many different names a text draws.
 const POOLS: [usize; 4] = [1, 2, 60, 1_000_000];
@@ -24,12 +21,12 @@ impl Iterator for NameTexts {
 
     fn next(&mut self) -> Option<String> {
         let rng = &mut self.rng;
+        let pool = POOLS[rng.below(4)];
         let length = match rng.below(8) {
-            0..3 => AROUND[rng.below(3)],
-            3..7 => 2_000 + rng.below(12_000),
+            0..3 => return Some(row(rng, pool)),
+            3..7 => 600 + rng.below(13_400),
             _ => 14_000 + rng.below(51_537),
         };
-        let pool = POOLS[rng.below(4)];
         let mut text = String::new();
         while text.len() < length {
             piece(rng, pool, &mut text);
@@ -37,6 +34,12 @@ impl Iterator for NameTexts {
         text.truncate(length);
         Some(text)
     }
+}
+
+/// Names and blanks, some 256 tokens.
+fn row(rng: &mut Rng, pool: usize) -> String {
+    let tokens = 250 + rng.below(12);
+    (0..tokens).map(|i| if i % 2 == 0 { name(rng, pool) } else { " ".to_string() }).collect()
 }
 
 fn piece(rng: &mut Rng, pool: usize, text: &mut String) {
