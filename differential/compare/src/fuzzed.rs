@@ -17,7 +17,7 @@ pub const PARSED: &[&str] = &[
     // behind what starts none, `eager` behind a field, a third branch without a block.
     "const a use;init\"\"hex\"a𝄞\"",
     "const hex\"木\"\"\\xa木\"const struct{a{}eager",
-    "run\"木\"\"\\aé\"init{hex\"aD\"\"\\xé\"\"\\x𝄞\"\"\\𝄞\\x1A\"",
+    "run\"木\"\"\\aé\"init{hex\"aD\"\"\\xé\"\"\\x木\"\"\\x𝄞\"\"\\𝄞\\x1A\"",
     "init\"\\xw1𝄞\"\"\\x1a\"]pub use a@a;run\"\\xa𝄞\"",
     "run{let:init\"\"/*",
     "const if else if else if\"é𝄞\\xa 木\"\"\\xF\"",
