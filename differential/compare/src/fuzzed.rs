@@ -2,8 +2,8 @@
 //! a way that no other recorded text takes: a branch, as the compiler counts them in its files, or
 //! a family of nodes or row of reports (`read/features.rs`).
 
-/// Ways of lexing: the first or a later character of two, three or four bytes at each place where
-/// the reference looks for the end of a comment, a number or a string.
+/// Ways of lexing: most have a character of two, three or four bytes where the reference looks for
+/// the end of a comment, a number or a string.
 pub const LEXED: &[&str] = &[
     "//木", "//𝄞", "//a木", "//a𝄞", "//\né", "//\n木", "//\n𝄞", "/**é", "/**木", "/**𝄞", "/*/木",
     "0b1é", "0b1木", "0b1𝄞", "0b1aé", "0b1a木", "0xaé", "0x1木", "0xaaé", "0xaa木", "0xaa𝄞",
@@ -12,7 +12,7 @@ pub const LEXED: &[&str] = &[
 
 /// Ways of parsing.
 pub const PARSED: &[&str] = &[
-    // Digits and characters of each length at each place of an escape and of a hex string, what is
+    // Digits and characters of each length at places of an escape and of a hex string, what is
     // unexpected at the same token as before, what is missing before which declaration, `pub`
     // behind what starts none, `eager` behind a field, a third branch without a block.
     "const a use;init\"\"hex\"a𝄞\"",
