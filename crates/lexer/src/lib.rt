@@ -48,7 +48,7 @@ fn fill(text: &[u8], words: &mut [u32]) -> usize
     let mut at = 0;
     let mut n = 0;
     while at < text.len() {
-        let t = tokens::token_at(text, at);
+        let t = tokens::next_token(text, at);
         let end = t.end;
         put(words, n, words::token_word(t.kind, end as u32));
         n += 1;

@@ -3,3 +3,4 @@ pub mod First
 pub mod Cases
 pub mod Pairs
 pub mod At
+pub mod Next

@@ -10,6 +10,7 @@ ghost use Rattle.scan.specs.Lexer.{from, spelled, classed, tokenAt, longest, no
 ghost use Rattle.scan.specs.Longest.{same, keywordOf, withHead};
 ghost use Rattle.tokens.specs.Cases.{matchOf};
 ghost use Rattle.tokens.specs.At.{Other};
+ghost use Rattle.tokens.specs.Next.{nextToken};
 ghost use Rattle.tokens.specs.Pairs.{pairOf, aloneOf};
 use scan::Token;
 use utf8::Character;
@@ -371,7 +372,7 @@ fn other(text: &[u8], at: usize) -> Token
 }
 
 // The token at an offset inside the text.
-pub fn token_at(text: &[u8], at: usize) -> Token
+fn token_at(text: &[u8], at: usize) -> Token
     requires { ⌜ at < length (now text) ⌝ }
     ensures { λ r. ⌜ r ≡ from at (tokenAt (drop at (now (text .entry)))) ⌝ }
 {
@@ -394,4 +395,17 @@ pub fn token_at(text: &[u8], at: usize) -> Token
         64 => at_sign(text, at),
         _ => other(text, at),
     }
+}
+
+// The token at an offset; where the text has ended, an Eof.
+pub fn next_token(text: &[u8], at: usize) -> Token
+    ensures { λ r. ⌜ r ≡ nextToken (now (text .entry)) at ⌝ }
+{
+    if text.len() <= at {
+        return Token {
+            kind: token::EOF,
+            end: at,
+        };
+    }
+    token_at(text, at)
 }

@@ -3,6 +3,7 @@ use mathlib.Core.Path.{_∙_}
 use Prim.Native.Nat.{_-_}
 use lib.ListN.{length, length-set}
 use Rattle.lexer.specs.Walk.{Filling, filling-first, filling-next, filling-last, stepped}
+use Rattle.tokens.specs.Next.{next-inside}
 use borrow.Author.Needs.{needs}
 use native.Mathlib.Omega.{arith}
 use Rattle.lexer.proofs.fill.Statement.{statement}
@@ -17,11 +18,11 @@ abbrev μ-loop : tie.MeasureT-loop
 loop-holds : tie.Need-loop-holds Inv-loop μ-loop
 loop-holds c = filling-first _ _
 
-token-at-requires : tie.Need-token-at-requires Inv-loop μ-loop
-token-at-requires c κs = search needs
+next-token-requires : tie.Need-next-token-requires Inv-loop μ-loop
+next-token-requires c κs = search needs
 
 cast-token-word : tie.Need-cast-token-word Inv-loop μ-loop
-cast-token-word c = omega (arith, stepped _ _ _ (c .before .before .loop-test .taken) (c .before .token-at .ensures) .within, c .before .before .before .before .before .before .pre)
+cast-token-word c = omega (arith, stepped _ _ _ (c .before .before .loop-test .taken) (next-inside _ _ _ (c .before .before .loop-test .taken) (c .before .next-token .ensures)) .within, c .before .before .before .before .before .before .pre)
 
 token-word-requires : tie.Need-token-word-requires Inv-loop μ-loop
 token-word-requires c κs = search needs
@@ -33,10 +34,10 @@ add-n : tie.Need-add-n Inv-loop μ-loop
 add-n c = omega (arith, c .before .before .before .before .before .before .before .loop .inv .few, c .before .before .before .before .before .before .loop-test .taken)
 
 loop-less : tie.Need-loop-less Inv-loop μ-loop
-loop-less c = omega (arith, c .before .before .before .before .before .before .loop-test .taken, stepped _ _ _ (c .before .before .before .before .before .before .loop-test .taken) (c .before .before .before .before .before .token-at .ensures) .on)
+loop-less c = omega (arith, c .before .before .before .before .before .before .loop-test .taken, stepped _ _ _ (c .before .before .before .before .before .before .loop-test .taken) (next-inside _ _ _ (c .before .before .before .before .before .before .loop-test .taken) (c .before .before .before .before .before .next-token .ensures)) .on)
 
 loop-again : tie.Need-loop-again Inv-loop μ-loop
-loop-again c = filling-next _ _ _ _ _ (c .before .before .before .before .before .before .before .loop .inv) _ _ _ (c .before .before .before .before .before .before .loop-test .taken) (c .before .before .before .before .before .token-at .ensures) (c .before .before .before .token-word .ensures) (c .before .before .put .ensures)
+loop-again c = filling-next _ _ _ _ _ (c .before .before .before .before .before .before .before .loop .inv) _ _ _ (c .before .before .before .before .before .before .loop-test .taken) (next-inside _ _ _ (c .before .before .before .before .before .before .loop-test .taken) (c .before .before .before .before .before .next-token .ensures)) (c .before .before .before .token-word .ensures) (c .before .before .put .ensures)
 
 cast-token-word-2 : tie.Need-cast-token-word-2 Inv-loop μ-loop
 cast-token-word-2 c = omega (arith, c .before .before .loop .inv .within, c .before .before .before .before .before .pre)
@@ -63,7 +64,7 @@ fill-spec =
     Inv-loop
     μ-loop
     loop-holds
-    token-at-requires
+    next-token-requires
     cast-token-word
     token-word-requires
     put-requires

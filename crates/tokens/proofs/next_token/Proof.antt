@@ -1,0 +1,17 @@
+-- `next_token` meets its contract, inside the text and past it.
+use Rattle.tokens.specs.Next.{next-past, next-there}
+use borrow.Author.Needs.{needs}
+use Rattle.tokens.proofs.next_token.Statement.{statement}
+use Rattle.tokens.proofs.next_token.Tie as tie
+
+returns : tie.Need-returns
+returns c = next-past _ _ (c .if1 .taken)
+
+token-at-requires : tie.Need-token-at-requires
+token-at-requires c κs = search needs
+
+returns-2 : tie.Need-returns-2
+returns-2 c = next-there _ _ _ (c .before .if1 .left) (c .token-at .ensures)
+
+pub next-token-spec : {M : Type 1} → statement M
+next-token-spec = tie.close (tie.spec returns token-at-requires returns-2)
