@@ -19,9 +19,8 @@ use Rattle.definition.specs.Expressions.{Binary, binaries, binaryOf, unaryOf, a
 use Rattle.definition.specs.Abstract.{World, Fate, ok, moveTo}
 use Rattle.chart.specs.Row.{Lexeme, RowToken, token, begins}
 use Rattle.chart.specs.Tree.{flags, Tree, Trees, node, none, _▸_, _⊕_, branch, named}
-use Rattle.chart.specs.Chart.{Role, within, lookup, operatorOf, notBinary, prefixLevel, binaryTree}
-use Rattle.chart.specs.Chart as Grammar
-use Rattle.chart.specs.Parser.{Outcome, if, on, bind, try, onLevel, onOp, nothing, failed, readList, readFields, readOn, readOperand, readPrefix, readLevel}
+use Rattle.chart.specs.Chart.{prefixLevel, binaryTree}
+use Rattle.chart.specs.Parser.{Role, within, lookup, operatorOf, notBinary, Outcome, if, on, bind, try, onLevel, onOp, nothing, failed, readList, readFields, readOn, readOperand, readPrefix, readLevel}
 use Rattle.chart.specs.Parser as Chart
 use Rattle.tree.specs.Stored.{isName}
 use Rattle.agreement.specs.Run.{run, turns}
@@ -38,9 +37,9 @@ use Rattle.agreement.specs.Operands.{operand-read}
 -- A binary operator of the definition, and its level and payload in the chart: the left priority of level j is 2 j + 1, the right one 2 j + 2.
 pub data Alike : Option Binary → Role → Type 0 where
   neither : Alike Option.none notBinary
-  both : {b : Binary} {j op : ℕ} → b .left ≡ 2 * j + 1 → b .right ≡ 2 * j + 2 → ltb (b .right) 21 ≡ true → b .op ≡ op → isFlagged Node.BinaryExpr (b .op) ≡ true → Alike (Option.some b) (Grammar.binaryOf j op)
+  both : {b : Binary} {j op : ℕ} → b .left ≡ 2 * j + 1 → b .right ≡ 2 * j + 2 → ltb (b .right) 21 ≡ true → b .op ≡ op → isFlagged Node.BinaryExpr (b .op) ≡ true → Alike (Option.some b) (Chart.binaryOf j op)
 
-or-else : {b : Binary} {j op : ℕ} {x : Option Binary} {r : Role} (c : Bool) → Alike (Option.some b) (Grammar.binaryOf j op) → Alike x r → Alike (elim c [ true ↦ Option.some b | false ↦ x ]) (cond c (Grammar.binaryOf j op) r)
+or-else : {b : Binary} {j op : ℕ} {x : Option Binary} {r : Role} (c : Bool) → Alike (Option.some b) (Chart.binaryOf j op) → Alike x r → Alike (elim c [ true ↦ Option.some b | false ↦ x ]) (cond c (Chart.binaryOf j op) r)
 or-else true p q = p
 or-else false p q = q
 

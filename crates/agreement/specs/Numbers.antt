@@ -15,7 +15,7 @@ use Rattle.literals.specs.Numbers.{digits, numberValue, limbs}
 use Rattle.definition.specs.Prog.{Then, Give, pass, spelling, value}
 use Rattle.definition.specs.Nodes.{Radix, radixOf, tryParseNumLiteral, allocLastTokenAsNode}
 use Rattle.definition.specs.Expressions.{numLiteral}
-use Rattle.definition.specs.Abstract.{Node, World, Fate, ok, moveTo, withValue}
+use Rattle.definition.specs.Abstract.{Node, World, Fate, moveTo, withValue}
 use Rattle.chart.specs.Row.{RowToken, token}
 use Rattle.chart.specs.Tree.{number, Tree, node, none, _▸_, numeral}
 use Rattle.chart.specs.Parser.{Outcome, if, on}

@@ -16,7 +16,7 @@ use Rattle.words.specs.Node
 use Rattle.words.specs.Words.{nodeKind, nodePayload, nodeHead}
 use Rattle.literals.specs.Spelling as Source
 use Rattle.literals.specs.Strings.{Event, byte, report, bytesOf, decodeString, decodeHex, stringValue}
-use Rattle.definition.specs.Prog.{Turn, again, stop, Then, Give, Branch, spelling, value}
+use Rattle.definition.specs.Prog.{Turn, again, stop, Then, Give, Branch, value}
 use Rattle.definition.specs.Nodes.{allocNodeFrom, closeNodeAt, skipTriviaStart}
 use Rattle.definition.specs.Strings.{emitEvents, StringBuf, decodeToken, stringTurn, tryParseStringLiteral}
 use Rattle.definition.specs.Abstract.{Seen, Node, World, Fate, ok, moveTo, withValue}

@@ -1,7 +1,7 @@
 -- The grammar of scripts: 01's section "The wall chart", rule for rule. A rule says what row of tokens a tree has, and nothing of how it is found.
 use mathlib.Core.Path.{_≡_}
-use mathlib.Core.Bool.{Bool, true, false, cond, _||_}
-use mathlib.Core.List.{List, [], _∷_, _++_}
+use mathlib.Core.Bool.{Bool, true, false, _||_}
+use mathlib.Core.List.{List, [], _∷_, _++_, flatten}
 use Prim.Native.Nat.{ℕ, suc, _+_}
 use lib.Dec.{eqb}
 use Rattle.literals.specs.Strings.{bytesOf}
@@ -17,43 +17,63 @@ use Rattle.chart.specs.Tree.{Trees, _⊕_, branch, listed, flag, letFlag
 pub data Operator : Type 0 where
   operator : ℕ → ℕ → Operator
 
--- "Levels from loosest, each grouping left: or; and; six comparisons; `|`; `^`; `&`; shifts; `+ - +% -%`; `* / % *% +/ -/ </ >/`" (01, The wall chart).
-abbrev pub levels : List (List Operator)
-levels =
-    (operator Token.Or BinaryOp.Or ∷ [])
-    ∷ (operator Token.And BinaryOp.And ∷ [])
-    ∷ (operator Token.DoubleEquals BinaryOp.DoubleEquals ∷ operator Token.BangEquals BinaryOp.BangEquals ∷
-    operator Token.LessThan BinaryOp.LessThan ∷ operator Token.GreaterThan BinaryOp.GreaterThan ∷
-    operator Token.LessEquals BinaryOp.LessEquals ∷ operator Token.GreaterEquals BinaryOp.GreaterEquals ∷ [])
-    ∷ (operator Token.Pipe BinaryOp.Pipe ∷ [])
-    ∷ (operator Token.Caret BinaryOp.Caret ∷ [])
-    ∷ (operator Token.Ampersand BinaryOp.Ampersand ∷ [])
-    ∷ (operator Token.ShiftLeft BinaryOp.ShiftLeft ∷ operator Token.ShiftRight BinaryOp.ShiftRight ∷ [])
-    ∷ (operator Token.Plus BinaryOp.Plus ∷ operator Token.Minus BinaryOp.Minus ∷
-    operator Token.PlusPercent BinaryOp.PlusPercent ∷ operator Token.MinusPercent BinaryOp.MinusPercent ∷ [])
-    ∷ (operator Token.Star BinaryOp.Star ∷ operator Token.Slash BinaryOp.Slash ∷
-    operator Token.Percent BinaryOp.Percent ∷ operator Token.StarPercent BinaryOp.StarPercent ∷
-    operator Token.PlusSlash BinaryOp.PlusSlash ∷ operator Token.MinusSlash BinaryOp.MinusSlash ∷
-    operator Token.LessSlash BinaryOp.LessSlash ∷ operator Token.GreaterSlash BinaryOp.GreaterSlash ∷ [])
+-- "Levels from loosest, each grouping left: or; and; six comparisons; `|`; `^`; `&`; shifts; `+ - +% -% `; `* / % *% +/ -/ </ >/`." (01, The
+-- wall chart.) The operators of each level; `Derives` has its rule.
+abbrev pub ors : List Operator
+ors = operator Token.Or BinaryOp.Or ∷ []
+
+abbrev pub ands : List Operator
+ands = operator Token.And BinaryOp.And ∷ []
+
+abbrev pub comparisons : List Operator
+comparisons =
+    operator Token.DoubleEquals BinaryOp.DoubleEquals ∷ operator Token.BangEquals BinaryOp.BangEquals
+    ∷ operator Token.LessThan BinaryOp.LessThan ∷ operator Token.GreaterThan BinaryOp.GreaterThan
+    ∷ operator Token.LessEquals BinaryOp.LessEquals ∷ operator Token.GreaterEquals BinaryOp.GreaterEquals
     ∷ []
 
--- What a token is between two operands: no operator, or one of a level, 0 the loosest, with its payload.
-pub data Role : Type 0 where
-  notBinary : Role
-  binaryOf : ℕ → ℕ → Role
+abbrev pub pipes : List Operator
+pipes = operator Token.Pipe BinaryOp.Pipe ∷ []
 
--- The role of a token in the row of a level; `rest` is that in the rows of tighter levels.
-unfoldable pub within : ℕ → List Operator → ℕ → Role → Role
-within level [] kind rest = rest
-within level (operator k op ∷ r) kind rest = cond (eqb kind k) (binaryOf level op) (within level r kind rest)
+abbrev pub carets : List Operator
+carets = operator Token.Caret BinaryOp.Caret ∷ []
 
--- The role of a token in the rows from a level on.
-unfoldable pub lookup : ℕ → List (List Operator) → ℕ → Role
-lookup level [] kind = notBinary
-lookup level (r ∷ rs) kind = within level r kind (lookup (suc level) rs kind)
+abbrev pub ampersands : List Operator
+ampersands = operator Token.Ampersand BinaryOp.Ampersand ∷ []
 
-unfoldable pub operatorOf : ℕ → Role
-operatorOf kind = lookup 0 levels kind
+abbrev pub shifts : List Operator
+shifts = operator Token.ShiftLeft BinaryOp.ShiftLeft ∷ operator Token.ShiftRight BinaryOp.ShiftRight ∷ []
+
+abbrev pub sums : List Operator
+sums =
+    operator Token.Plus BinaryOp.Plus ∷ operator Token.Minus BinaryOp.Minus
+    ∷ operator Token.PlusPercent BinaryOp.PlusPercent ∷ operator Token.MinusPercent BinaryOp.MinusPercent
+    ∷ []
+
+abbrev pub products : List Operator
+products =
+    operator Token.Star BinaryOp.Star ∷ operator Token.Slash BinaryOp.Slash
+    ∷ operator Token.Percent BinaryOp.Percent ∷ operator Token.StarPercent BinaryOp.StarPercent
+    ∷ operator Token.PlusSlash BinaryOp.PlusSlash ∷ operator Token.MinusSlash BinaryOp.MinusSlash
+    ∷ operator Token.LessSlash BinaryOp.LessSlash ∷ operator Token.GreaterSlash BinaryOp.GreaterSlash
+    ∷ []
+
+abbrev pub levels : List (List Operator)
+levels = ors ∷ ands ∷ comparisons ∷ pipes ∷ carets ∷ ampersands ∷ shifts ∷ sums ∷ products ∷ []
+
+-- A token of kind `o` is one of these operators, the one with the payload `op`.
+pub data OneOf : List Operator → ℕ → ℕ → Type 0 where
+  this : {o op : ℕ} {r : List Operator} → OneOf (operator o op ∷ r) o op
+  other : {o op : ℕ} {x : Operator} {r : List Operator} → OneOf r o op → OneOf (x ∷ r) o op
+
+-- Whether a kind of token is that of one of these operators.
+unfoldable pub isAmong : List Operator → ℕ → Bool
+isAmong [] kind = false
+isAmong (operator k op ∷ r) kind = eqb kind k || isAmong r kind
+
+-- "a binary operator" (01, The wall chart): one of any level.
+unfoldable pub isBinary : ℕ → Bool
+isBinary kind = isAmong (flatten levels) kind
 
 -- The level after the nine, of prefix operators.
 abbrev pub prefixLevel : ℕ
@@ -63,15 +83,10 @@ prefixLevel = 9
 unfoldable pub binaryTree : ℕ → Trees → Trees → Trees
 binaryTree op t u = branch Node.BinaryExpr op (t ⊕ (branch Node.Operator 0 none ⊕ u))
 
--- "A Block, If or Match".
+-- "a Block, If or Match" (01, The wall chart).
 unfoldable pub isBlockLike : Trees → Bool
 isBlockLike none = false
 isBlockLike (node k v ts ▸ us) = eqb k Node.Block || (eqb k Node.If || eqb k Node.Match)
-
--- "A binary operator".
-unfoldable pub isBinary : Role → Bool
-isBinary notBinary = false
-isBinary (binaryOf level op) = true
 
 -- "`.`, `(`, `{`, `=`, `;` or a binary operator" (01, The wall chart).
 abbrev pub continuing : ℕ → Bool
@@ -81,7 +96,7 @@ continuing k =
     || (eqb k Token.LeftCurly
     || (eqb k Token.Equals
     || (eqb k Token.Semicolon
-    || isBinary (operatorOf k)))))
+    || isBinary k))))
 
 -- Whether one of these is next.
 unfoldable pub continues : List RowToken → Bool
@@ -97,15 +112,20 @@ pub data Nonterminal : Type 0 where
   path items item : Nonterminal
   level : Bool → ℕ → Nonterminal
   postfix : Bool → Nonterminal
-  operand strings arguments elements types fields elseIfs arms arm signature parameters parameter parameterType structBody methods block statements statement : Nonterminal
+  operand strings expressions types fields elseIfs arms arm signature parameters parameter parameterType structBody methods : Nonterminal
+  block statements statement : Nonterminal
   binding : Bool → Nonterminal
   bindingName : Bool → Bool → Nonterminal
 
 -- "The chart derives a row of tokens when a tree made by these rules has just that row as its tokens, from left to right" (01, The wall chart).
 -- `Derives n xs ys ts`: by the rules for `n`, the trees `ts` have as their tokens those of the row `xs` up to the row `ys`, which is left.
--- So a row `xs` is derived with its tree where `Derives file xs [] ts`. A list's tokens are those after its opening one, its closing one included.
--- `level true 0` is any expression, `level false 0` one without a field list of its own.
+-- So a row `xs` is derived with its tree where `Derives file xs [] ts`; `ys` is always an end of `xs` (`Errors.splits`). A list's tokens are those
+-- after its opening one, its closing one included. `level true 0` is any expression, `level false 0` one without a field list of its own.
 pub data Derives : Nonterminal → List RowToken → List RowToken → Trees → Type 0 where
+  -- Over each group stands a line with its rules in short: `|` stands between two ways, an empty way is left blank; NAME, NUMBER, STRING and BUILTIN
+  -- are tokens; `expr` is `level true 0`, `expr!` is `level false 0`.
+  -- ---- Declarations.
+  -- file = declarations;  declarations = | declaration declarations
   -- File: declarations.
   file-rule : {xs : List RowToken} {us : Trees}
       → Derives declarations xs [] us
@@ -117,6 +137,7 @@ pub data Derives : Nonterminal → List RowToken → List RowToken → Trees →
       → Derives declaration xs ys t
       → Derives declarations ys zs us
       → Derives declarations xs zs (t ⊕ us)
+  -- declaration = init block | run block | const NAME = expr ; | const NAME : expr = expr ; | use import | pub use import
   -- `init` block.
   init : {v : Lexeme} {xs ys : List RowToken} {b : Trees}
       → Derives block xs ys b
@@ -142,6 +163,7 @@ pub data Derives : Nonterminal → List RowToken → List RowToken → Trees →
   use-public : {u v : Lexeme} {xs ys : List RowToken} {t : Trees}
       → Derives (import true) xs ys t
       → Derives declaration (token Token.Pub u ∷ token Token.Use v ∷ xs) ys t
+  -- import = path ; | path as NAME ; | path :: * ; | path :: { item , items ;
   -- A path, then `;`.
   import-path : {p : Bool} {u : Lexeme} {xs ys : List RowToken} {t : Trees}
       → Derives path xs (token Token.Semicolon u ∷ ys) t
@@ -160,12 +182,14 @@ pub data Derives : Nonterminal → List RowToken → List RowToken → Trees →
       → Derives item ys (token Token.Comma a ∷ zs) i
       → Derives items zs (token Token.Semicolon w ∷ ws) us
       → Derives (import p) xs ws (branch Node.ImportGroupDecl (flag p Flag.ImportGroupDecl-public) (t ⊕ (i ⊕ us)))
+  -- path = NAME | NAME :: path
   -- A path: names with `::` between them. The last one.
   path-last : {v : Lexeme} {xs : List RowToken} → Derives path (token Token.Identifier v ∷ xs) xs (named v)
   -- A name, `::` and the rest of the path.
   path-more : {v w : Lexeme} {xs ys : List RowToken} {t : Trees}
       → Derives path xs ys t
       → Derives path (token Token.Identifier v ∷ token Token.DoubleColon w ∷ xs) ys (named v ⊕ t)
+  -- items = item } | item , } | item , items;  item = NAME | NAME as NAME
   -- The names of a group after its first, up to `}`; a comma may trail. The last one.
   items-last : {v : Lexeme} {xs ys : List RowToken} {t : Trees}
       → Derives item xs (token Token.RightCurly v ∷ ys) t
@@ -185,16 +209,70 @@ pub data Derives : Nonterminal → List RowToken → List RowToken → Trees →
   -- Name `as` name.
   item-as : {u v w : Lexeme} {xs : List RowToken}
       → Derives item (token Token.Identifier u ∷ token Token.As v ∷ token Token.Identifier w ∷ xs) xs (branch Node.ImportGroupItem 0 (named u ⊕ named w))
-  -- A level groups left: what stands left of its operator is of the level itself, what stands right is of the next, which is tighter.
-  binary : {m : Bool} {k o op : ℕ} {v : Lexeme} {xs ys zs : List RowToken} {t u : Trees}
-      → operatorOf o ≡ binaryOf k op
-      → Derives (level m k) xs (token o v ∷ ys) t
-      → Derives (level m (suc k)) ys zs u
-      → Derives (level m k) xs zs (binaryTree op t u)
+  -- ---- Levels, prefix and postfix.
+  -- level k = level k OPERATOR level (k + 1) | level (k + 1), for k from 0 to 8, with the operators of level k
+  -- One rule for each level, from the loosest. Each groups left: what stands left of its operator is of the level itself, what stands right is of
+  -- the next, which is tighter. (In the comparison's own text of the grammar, differential/derive/src/chart.txt, these are the lines from `expr~`
+  -- to `product~`.)
+  -- Level 0: or.
+  or : {m : Bool} {o op : ℕ} {v : Lexeme} {xs ys zs : List RowToken} {t u : Trees}
+      → OneOf ors o op
+      → Derives (level m 0) xs (token o v ∷ ys) t
+      → Derives (level m 1) ys zs u
+      → Derives (level m 0) xs zs (binaryTree op t u)
+  -- Level 1: and.
+  and : {m : Bool} {o op : ℕ} {v : Lexeme} {xs ys zs : List RowToken} {t u : Trees}
+      → OneOf ands o op
+      → Derives (level m 1) xs (token o v ∷ ys) t
+      → Derives (level m 2) ys zs u
+      → Derives (level m 1) xs zs (binaryTree op t u)
+  -- Level 2: six comparisons.
+  comparison : {m : Bool} {o op : ℕ} {v : Lexeme} {xs ys zs : List RowToken} {t u : Trees}
+      → OneOf comparisons o op
+      → Derives (level m 2) xs (token o v ∷ ys) t
+      → Derives (level m 3) ys zs u
+      → Derives (level m 2) xs zs (binaryTree op t u)
+  -- Level 3: `|`.
+  pipe : {m : Bool} {o op : ℕ} {v : Lexeme} {xs ys zs : List RowToken} {t u : Trees}
+      → OneOf pipes o op
+      → Derives (level m 3) xs (token o v ∷ ys) t
+      → Derives (level m 4) ys zs u
+      → Derives (level m 3) xs zs (binaryTree op t u)
+  -- Level 4: `^`.
+  caret : {m : Bool} {o op : ℕ} {v : Lexeme} {xs ys zs : List RowToken} {t u : Trees}
+      → OneOf carets o op
+      → Derives (level m 4) xs (token o v ∷ ys) t
+      → Derives (level m 5) ys zs u
+      → Derives (level m 4) xs zs (binaryTree op t u)
+  -- Level 5: `&`.
+  ampersand : {m : Bool} {o op : ℕ} {v : Lexeme} {xs ys zs : List RowToken} {t u : Trees}
+      → OneOf ampersands o op
+      → Derives (level m 5) xs (token o v ∷ ys) t
+      → Derives (level m 6) ys zs u
+      → Derives (level m 5) xs zs (binaryTree op t u)
+  -- Level 6: shifts.
+  shift : {m : Bool} {o op : ℕ} {v : Lexeme} {xs ys zs : List RowToken} {t u : Trees}
+      → OneOf shifts o op
+      → Derives (level m 6) xs (token o v ∷ ys) t
+      → Derives (level m 7) ys zs u
+      → Derives (level m 6) xs zs (binaryTree op t u)
+  -- Level 7: `+ - +% -% `.
+  sum : {m : Bool} {o op : ℕ} {v : Lexeme} {xs ys zs : List RowToken} {t u : Trees}
+      → OneOf sums o op
+      → Derives (level m 7) xs (token o v ∷ ys) t
+      → Derives (level m 8) ys zs u
+      → Derives (level m 7) xs zs (binaryTree op t u)
+  -- Level 8: `* / % *% +/ -/ </ >/`.
+  product : {m : Bool} {o op : ℕ} {v : Lexeme} {xs ys zs : List RowToken} {t u : Trees}
+      → OneOf products o op
+      → Derives (level m 8) xs (token o v ∷ ys) t
+      → Derives (level m prefixLevel) ys zs u
+      → Derives (level m 8) xs zs (binaryTree op t u)
   -- What is of the next level is of this one too.
   tighter : {m : Bool} {k : ℕ} {xs ys : List RowToken} {t : Trees}
       → Derives (level m (suc k)) xs ys t
       → Derives (level m k) xs ys t
+  -- level 9 = - level 9 | ! level 9 | ~ level 9 | postfix
   -- Then prefix `- ! ~`, which may follow one another: `-`.
   minus : {m : Bool} {v : Lexeme} {xs ys : List RowToken} {t : Trees}
       → Derives (level m prefixLevel) xs ys t
@@ -211,6 +289,7 @@ pub data Derives : Nonterminal → List RowToken → List RowToken → Trees →
   unprefixed : {m : Bool} {xs ys : List RowToken} {t : Trees}
       → Derives (postfix m) xs ys t
       → Derives (level m prefixLevel) xs ys t
+  -- postfix = operand | postfix . NAME | postfix ( expressions | postfix { fields (the last where allowed)
   -- Then postfix `.name`.
   member : {m : Bool} {v w : Lexeme} {xs ys : List RowToken} {t : Trees}
       → Derives (postfix m) xs (token Token.Dot v ∷ token Token.Identifier w ∷ ys) t
@@ -218,7 +297,7 @@ pub data Derives : Nonterminal → List RowToken → List RowToken → Trees →
   -- A call.
   call : {m : Bool} {v : Lexeme} {xs ys zs : List RowToken} {t us : Trees}
       → Derives (postfix m) xs (token Token.LeftRound v ∷ ys) t
-      → Derives arguments ys zs us
+      → Derives expressions ys zs us
       → Derives (postfix m) xs zs (branch Node.CallExpr 0 (t ⊕ us))
   -- Where allowed, a field list in braces.
   struct-literal : {v : Lexeme} {xs ys zs : List RowToken} {t us : Trees}
@@ -229,6 +308,10 @@ pub data Derives : Nonterminal → List RowToken → List RowToken → Trees →
   standalone : {m : Bool} {xs ys : List RowToken} {t : Trees}
       → Derives operand xs ys t
       → Derives (postfix m) xs ys t
+  -- ---- Operands.
+  -- operand = true | false | NUMBER | STRING strings | Self | NAME | BUILTIN | ( ) | ( expr ) | ( expr , expressions | comptime block
+  --     | eager fn signature | fn signature | struct { structBody | struct expr! { structBody (where expr! doesn't begin with `{`)
+  --     | tuple { types | block | if expr! block elseIfs | match expr! { arms
   -- Operands are those of `try_parse_standalone_expr`. First `true`.
   true-literal : {v : Lexeme} {xs : List RowToken}
       → Derives operand (token Token.True v ∷ xs) xs (branch Node.BoolLiteral Flag.BoolLiteral-true none)
@@ -254,6 +337,7 @@ pub data Derives : Nonterminal → List RowToken → List RowToken → Trees →
       → quiet (decodedHex v) ≡ true
       → Derives strings xs ys (stringTree bs)
       → Derives operand (token Token.LooseHexStringLiteral v ∷ xs) ys (stringTree (bytesOf (decodedHex v) ++ bs))
+  -- strings = | STRING strings
   -- No more strings.
   strings-end : {xs : List RowToken} → Derives strings xs xs (stringTree [])
   -- One more `"` string.
@@ -284,7 +368,7 @@ pub data Derives : Nonterminal → List RowToken → List RowToken → Trees →
   -- `(e,)` is a tuple, and so are more elements.
   tuple : {v w : Lexeme} {xs ys zs : List RowToken} {t us : Trees}
       → Derives (level true 0) xs (token Token.Comma w ∷ ys) t
-      → Derives elements ys zs us
+      → Derives expressions ys zs us
       → Derives operand (token Token.LeftRound v ∷ xs) zs (branch Node.TupleLit 0 (t ⊕ us))
   -- `comptime` block.
   comptime-block : {v : Lexeme} {xs ys : List RowToken} {b : Trees}
@@ -327,29 +411,20 @@ pub data Derives : Nonterminal → List RowToken → List RowToken → Trees →
       → Derives (level false 0) xs (token Token.LeftCurly w ∷ ys) c
       → Derives arms ys zs a
       → Derives operand (token Token.Match v ∷ xs) zs (branch Node.Match 0 (c ⊕ branch Node.MatchArmList 0 a))
-  -- Arguments up to `)`. Commas may trail, and there may be none.
-  arguments-end : {v : Lexeme} {xs : List RowToken}
-      → Derives arguments (token Token.RightRound v ∷ xs) xs none
-  -- The last argument, and `)`.
-  arguments-last : {v : Lexeme} {xs ys : List RowToken} {t : Trees}
+  -- ---- What operands hold.
+  -- expressions = ) | expr ) | expr , expressions;  types = } | expr } | expr , types
+  -- Expressions up to `)`: the arguments of a call, the elements of a tuple after its first comma. Commas may trail, and there may be none.
+  expressions-end : {v : Lexeme} {xs : List RowToken}
+      → Derives expressions (token Token.RightRound v ∷ xs) xs none
+  -- The last one, and `)`.
+  expressions-last : {v : Lexeme} {xs ys : List RowToken} {t : Trees}
       → Derives (level true 0) xs (token Token.RightRound v ∷ ys) t
-      → Derives arguments xs ys t
-  -- An argument, a comma, and the rest.
-  arguments-more : {v : Lexeme} {xs ys zs : List RowToken} {t us : Trees}
+      → Derives expressions xs ys t
+  -- An expression, a comma, and the rest.
+  expressions-more : {v : Lexeme} {xs ys zs : List RowToken} {t us : Trees}
       → Derives (level true 0) xs (token Token.Comma v ∷ ys) t
-      → Derives arguments ys zs us
-      → Derives arguments xs zs (t ⊕ us)
-  -- The elements of a tuple after its first comma, up to `)`. Commas may trail, and there may be none.
-  elements-end : {v : Lexeme} {xs : List RowToken} → Derives elements (token Token.RightRound v ∷ xs) xs none
-  -- The last element, and `)`.
-  elements-last : {v : Lexeme} {xs ys : List RowToken} {t : Trees}
-      → Derives (level true 0) xs (token Token.RightRound v ∷ ys) t
-      → Derives elements xs ys t
-  -- An element, a comma, and the rest.
-  elements-more : {v : Lexeme} {xs ys zs : List RowToken} {t us : Trees}
-      → Derives (level true 0) xs (token Token.Comma v ∷ ys) t
-      → Derives elements ys zs us
-      → Derives elements xs zs (t ⊕ us)
+      → Derives expressions ys zs us
+      → Derives expressions xs zs (t ⊕ us)
   -- The types of a `tuple`, up to `}`. Commas may trail, and there may be none.
   types-end : {v : Lexeme} {xs : List RowToken} → Derives types (token Token.RightCurly v ∷ xs) xs none
   -- The last type, and `}`.
@@ -361,6 +436,7 @@ pub data Derives : Nonterminal → List RowToken → List RowToken → Trees →
       → Derives (level true 0) xs (token Token.Comma v ∷ ys) t
       → Derives types ys zs us
       → Derives types xs zs (t ⊕ us)
+  -- fields = } | NAME : expr } | NAME : expr , fields
   -- A field list, up to `}`: name `:` expression. Commas may trail, and there may be none.
   fields-end : {v : Lexeme} {xs : List RowToken} → Derives fields (token Token.RightCurly v ∷ xs) xs none
   -- The last field, and `}`.
@@ -372,6 +448,7 @@ pub data Derives : Nonterminal → List RowToken → List RowToken → Trees →
       → Derives (level true 0) xs (token Token.Comma u ∷ ys) t
       → Derives fields ys zs us
       → Derives fields (token Token.Identifier v ∷ token Token.Colon w ∷ xs) zs (branch Node.FieldAssign 0 (named v ⊕ t) ⊕ us)
+  -- elseIfs = | else block | else if expr! block elseIfs
   -- After the block of an `if`: any number of `else if` condition block, then perhaps `else` block. None.
   else-none : {xs : List RowToken} → Derives elseIfs xs xs (listed Node.ElseIfBranchList none none)
   -- `else` block, which stands after the list.
@@ -384,6 +461,7 @@ pub data Derives : Nonterminal → List RowToken → List RowToken → Trees →
       → Derives block ys zs b
       → Derives elseIfs zs ws (listed Node.ElseIfBranchList us e)
       → Derives elseIfs (token Token.Else v ∷ token Token.If w ∷ xs) ws (listed Node.ElseIfBranchList (branch Node.ElseIfBranch 0 (c ⊕ branch Node.Block 0 b) ⊕ us) e)
+  -- arms = } | arm } | arm , arms;  arm = else => expr | else NAME => expr | expr => expr
   -- Arms up to `}`. Commas may trail, and there may be none.
   arms-end : {v : Lexeme} {xs : List RowToken} → Derives arms (token Token.RightCurly v ∷ xs) xs none
   -- The last arm, and `}`.
@@ -408,6 +486,7 @@ pub data Derives : Nonterminal → List RowToken → List RowToken → Trees →
       → Derives (level true 0) xs (token Token.FatArrow v ∷ ys) t
       → Derives (level true 0) ys zs u
       → Derives arm xs zs (branch Node.MatchArm 0 (t ⊕ u))
+  -- signature = ( parameters expr! block;  parameters = ) | parameter ) | parameter , parameters
   -- Parameters in brackets, return type, block. Return types don't allow a field list.
   signature-rule : {v : Lexeme} {xs ys zs ws : List RowToken} {p t b : Trees}
       → Derives parameters xs ys p
@@ -426,6 +505,7 @@ pub data Derives : Nonterminal → List RowToken → List RowToken → Trees →
       → Derives parameter xs (token Token.Comma v ∷ ys) t
       → Derives parameters ys zs us
       → Derives parameters xs zs (t ⊕ us)
+  -- parameter = NAME : parameterType | comptime NAME : parameterType;  parameterType = $ NAME | expr
   -- A parameter: optional `comptime`, name `:` type. Without `comptime`.
   parameter-plain : {v w : Lexeme} {xs ys : List RowToken} {t : Trees}
       → Derives parameterType xs ys t
@@ -441,7 +521,9 @@ pub data Derives : Nonterminal → List RowToken → List RowToken → Trees →
   type-expression : {xs ys : List RowToken} {t : Trees}
       → Derives (level true 0) xs ys t
       → Derives parameterType xs ys t
-  -- The body of a struct up to `}`. "Fields come before methods; a comma between fields is needed, after the last optional." No more fields.
+  -- structBody = methods | NAME : expr methods | NAME : expr , structBody
+  -- The body of a struct up to `}`. "Fields come before methods; a comma between fields is needed, after the last
+  -- optional; none follows a method." (01, The wall chart.) No more fields.
   struct-methods : {xs ys : List RowToken} {t : Trees} → Derives methods xs ys t → Derives structBody xs ys t
   -- The last field, name `:` type, without a comma; then methods.
   struct-field-last : {v w : Lexeme} {xs ys zs : List RowToken} {t us : Trees}
@@ -453,6 +535,7 @@ pub data Derives : Nonterminal → List RowToken → List RowToken → Trees →
       → Derives (level true 0) xs (token Token.Comma u ∷ ys) t
       → Derives structBody ys zs us
       → Derives structBody (token Token.Identifier v ∷ token Token.Colon w ∷ xs) zs (branch Node.FieldDef 0 (named v ⊕ t) ⊕ us)
+  -- methods = } | fn NAME signature methods | eager fn NAME signature methods
   -- Methods up to `}`; no comma follows a method. None.
   methods-end : {v : Lexeme} {xs : List RowToken} → Derives methods (token Token.RightCurly v ∷ xs) xs none
   -- `fn` name, signature, and the rest.
@@ -465,6 +548,8 @@ pub data Derives : Nonterminal → List RowToken → List RowToken → Trees →
       → Derives signature xs ys t
       → Derives methods ys zs us
       → Derives methods (token Token.Eager u ∷ token Token.Fn v ∷ token Token.Identifier w ∷ xs) zs (branch Node.MethodDef Flag.MethodDef-eager (named w ⊕ t) ⊕ us)
+  -- ---- Blocks and statements.
+  -- block = { statements;  statements = } | statement statements | expr } | comptime block }
   -- A block: its statements in braces.
   block-rule : {v : Lexeme} {xs ys : List RowToken} {b : Trees}
       → Derives statements xs ys b
@@ -477,16 +562,19 @@ pub data Derives : Nonterminal → List RowToken → List RowToken → Trees →
       → Derives statement xs ys t
       → Derives statements ys zs (listed Node.StatementsList us e)
       → Derives statements xs zs (listed Node.StatementsList (t ⊕ us) e)
-  -- "An expression without `;` is last in its block; one that is last is the closing expression, outside the statement list."
+  -- "An expression without `;` is last in its block, unless it is a Block, If or Match; one that is last is the closing expression, outside the
+  -- statement list." (01, The wall chart.)
   -- An expression that begins with `comptime` begins `comptime {`, and has rules of its own as a statement or closing expression.
   closing : {v : Lexeme} {xs ys : List RowToken} {t : Trees}
       → begins Token.Comptime xs ≡ false
       → Derives (level true 0) xs (token Token.RightCurly v ∷ ys) t
       → Derives statements xs ys (listed Node.StatementsList none t)
-  -- "A closing expression that begins `comptime {` ends at its `}`."
+  -- "A statement or closing expression that begins `comptime {` ends at its `}`" (01, The wall chart): the closing one.
   closing-comptime : {v w : Lexeme} {xs ys : List RowToken} {b : Trees}
       → Derives block xs (token Token.RightCurly v ∷ ys) b
       → Derives statements (token Token.Comptime w ∷ xs) ys (listed Node.StatementsList none (branch Node.ComptimeBlock 0 b))
+  -- statement = while expr! block | inline while expr! block | return expr ; | comptime block ; | comptime block | comptime let binding
+  --     | let binding | expr ; | expr = expr ; | expr (a Block, If or Match)
   -- Statements as in `try_parse_stmt`. `while` condition block; conditions don't allow a field list.
   while : {v : Lexeme} {xs ys zs : List RowToken} {c b : Trees}
       → Derives (level false 0) xs ys c
@@ -501,7 +589,7 @@ pub data Derives : Nonterminal → List RowToken → List RowToken → Trees →
   return : {v w : Lexeme} {xs ys : List RowToken} {t : Trees}
       → Derives (level true 0) xs (token Token.Semicolon w ∷ ys) t
       → Derives statement (token Token.Return v ∷ xs) ys (branch Node.ReturnStmt 0 t)
-  -- "A statement that begins `comptime {` ends at its `}`, or a `;` after it, and needs no `;` in mid-block either."
+  -- "A statement .. that begins `comptime {` ends at its `}`, or a `;` after it, and needs no `;` in mid-block either." (01, The wall chart.)
   -- With the `;`.
   comptime-semicolon : {v w : Lexeme} {xs ys : List RowToken} {b : Trees}
       → Derives block xs (token Token.Semicolon v ∷ ys) b
@@ -530,14 +618,15 @@ pub data Derives : Nonterminal → List RowToken → List RowToken → Trees →
       → Derives (level true 0) xs (token Token.Equals v ∷ ys) t
       → Derives (level true 0) ys (token Token.Semicolon w ∷ zs) u
       → Derives statement xs zs (branch Node.AssignStmt 0 (t ⊕ u))
-  -- A Block, If or Match in mid-block needs no `;`: "such a one in mid-block isn't followed by `.`, `(`, `{`, `=`, `;` or a binary operator", nor by the `}` that would make it the last.
+  -- A Block, If or Match needs no `;`: "Such a one in mid-block isn't followed by `.`, `(`, `{`, `=`, `;` or a binary operator" (01, The wall chart),
+  -- nor by the `}` that would make it the last.
   mid-block : {xs ys : List RowToken} {t : Trees}
-      → begins Token.Comptime xs ≡ false
       → Derives (level true 0) xs ys t
       → isBlockLike t ≡ true
       → continues ys ≡ false
       → begins Token.RightCurly ys ≡ false
       → Derives statement xs ys t
+  -- binding = mut bindingName | bindingName;  bindingName = NAME = expr ; | NAME : expr = expr ;
   -- After `let`: optional `mut`. With it.
   binding-mut : {c : Bool} {v : Lexeme} {xs ys : List RowToken} {t : Trees}
       → Derives (bindingName c true) xs ys t

@@ -10,14 +10,24 @@ use Rattle.chart.specs.Chart
 use Rattle.chart.specs.Chart.{Nonterminal, Derives, file}
 use Rattle.chart.specs.Parser.{parse, ok, deep}
 use Rattle.chart.specs.Outcome.{same, sunk}
+use Rattle.chart.specs.Levels.{role}
 use Rattle.chart.specs.Laws.{ok-trees}
+use Rattle.chart.specs.First.{block-start}
 use Rattle.chart.specs.Rules
 use Rattle.chart.specs.Rules.{Read}
 use Rattle.chart.specs.Sound.{s-file}
 
 -- Every rule at once.
 pub read : {n : Nonterminal} {xs ys : List RowToken} {t : Trees} → Derives n xs ys t → Read n xs ys t
-read (Chart.binary a b c) = Rules.r-binary a (read b) (read c)
+read (Chart.or a b c) = Rules.r-binary (role 0 a) (read b) (read c)
+read (Chart.and a b c) = Rules.r-binary (role 1 a) (read b) (read c)
+read (Chart.comparison a b c) = Rules.r-binary (role 2 a) (read b) (read c)
+read (Chart.pipe a b c) = Rules.r-binary (role 3 a) (read b) (read c)
+read (Chart.caret a b c) = Rules.r-binary (role 4 a) (read b) (read c)
+read (Chart.ampersand a b c) = Rules.r-binary (role 5 a) (read b) (read c)
+read (Chart.shift a b c) = Rules.r-binary (role 6 a) (read b) (read c)
+read (Chart.sum a b c) = Rules.r-binary (role 7 a) (read b) (read c)
+read (Chart.product a b c) = Rules.r-binary (role 8 a) (read b) (read c)
 read (Chart.tighter a) = Rules.r-tighter (read a)
 read (Chart.minus a) = Rules.r-minus (read a)
 read (Chart.bang a) = Rules.r-bang (read a)
@@ -52,12 +62,9 @@ read (Chart.match a b) = Rules.r-match (read a) (read b)
 read Chart.strings-end = Rules.r-strings-end
 read (Chart.strings-more a b) = Rules.r-strings-more a (read b)
 read (Chart.strings-more-hex a b) = Rules.r-strings-more-hex a (read b)
-read Chart.arguments-end = Rules.r-arguments-end
-read (Chart.arguments-last a) = Rules.r-arguments-last (read a)
-read (Chart.arguments-more a b) = Rules.r-arguments-more (read a) (read b)
-read Chart.elements-end = Rules.r-elements-end
-read (Chart.elements-last a) = Rules.r-elements-last (read a)
-read (Chart.elements-more a b) = Rules.r-elements-more (read a) (read b)
+read Chart.expressions-end = Rules.r-expressions-end
+read (Chart.expressions-last a) = Rules.r-expressions-last (read a)
+read (Chart.expressions-more a b) = Rules.r-expressions-more (read a) (read b)
 read Chart.types-end = Rules.r-types-end
 read (Chart.types-last a) = Rules.r-types-last (read a)
 read (Chart.types-more a b) = Rules.r-types-more (read a) (read b)
@@ -101,7 +108,7 @@ read (Chart.comptime-let a) = Rules.r-comptime-let (read a)
 read (Chart.let-rule a) = Rules.r-let-rule (read a)
 read (Chart.semicolon a b) = Rules.r-semicolon a (read b)
 read (Chart.assign a b c) = Rules.r-assign a (read b) (read c)
-read (Chart.mid-block a b c d e) = Rules.r-mid-block a (read b) c d e
+read (Chart.mid-block a b c d) = Rules.r-mid-block (block-start _ a b) (read a) b c d
 read (Chart.binding-mut a) = Rules.r-binding-mut (read a)
 read (Chart.binding-fixed a) = Rules.r-binding-fixed (read a)
 read (Chart.binding-untyped a) = Rules.r-binding-untyped (read a)

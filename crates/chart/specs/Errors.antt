@@ -1,16 +1,15 @@
 -- No rule holds an error token: "No rule holds an error token" (01, The wall chart), as a law of the grammar.
-use mathlib.Core.Path.{_≡_, refl, sym, subst}
-use mathlib.Core.Bool.{Bool, true, false, cond}
-use mathlib.Core.List.{List, [], _∷_}
-use Prim.Native.Nat.{ℕ, suc}
-use borrow.Author.Tests.{eqb-true}
-use lib.Dec.{eqb}
+use mathlib.Core.Path.{_≡_, refl, ap}
+use mathlib.Core.List.{List, [], _∷_, _++_}
+use Prim.Native.Nat.{ℕ}
+use lib.ListN.{getD}
 use Rattle.words.specs.Token.{lexError}
 use Rattle.words.specs.declared.token.LexError.the-variants.{Nothing}
 use Rattle.chart.specs.Row.{Lexeme, RowToken, token}
 use Rattle.chart.specs.Tree.{Trees}
 use Rattle.chart.specs.Chart
-use Rattle.chart.specs.Chart.{Operator, operator, levels, Role, notBinary, binaryOf, within, lookup, operatorOf, Nonterminal, Derives, file}
+use Rattle.chart.specs.Chart.{OneOf, levels, Nonterminal, Derives, file}
+use Rattle.chart.specs.Levels.{each}
 
 -- No token of a row is an error token.
 pub data NoErrors : List RowToken → Type 0 where
@@ -26,39 +25,10 @@ then : {xs ys zs : List RowToken} → Free xs ys → Free ys zs → Free xs zs
 then done q = q
 then (more e p) q = more e (then p q)
 
--- The operators of a level, none of them an error token.
-abbrev AllClean : List Operator → Type 0
-AllClean [] = Unit {0}
-AllClean (operator k op ∷ r) = (lexError k ≡ Nothing) × AllClean r
-
-abbrev EachClean : List (List Operator) → Type 0
-EachClean [] = Unit {0}
-EachClean (r ∷ rs) = AllClean r × EachClean rs
-
-isRole : Role → Type 0
-isRole notBinary = ⊥
-isRole (binaryOf j op) = Unit {0}
-
-within-clean : (j : ℕ) (r : List Operator) (kind : ℕ) (rest : Role) → AllClean r → (isRole rest → lexError kind ≡ Nothing) → isRole (within j r kind rest) → lexError kind ≡ Nothing
-unfolding within
-within-clean j [] kind rest a h x = h x
-within-clean j (operator k op ∷ r) kind rest a h x = go (eqb kind k) refl (within-clean j r kind rest (a .1) h) x
-  where
-    go : (b : Bool) → eqb kind k ≡ b → (isRole (within j r kind rest) → lexError kind ≡ Nothing) → isRole (cond b (binaryOf j op) (within j r kind rest)) → lexError kind ≡ Nothing
-    go true e ih x = let z : kind ≡ k = eqb-true kind k e in rw z (a .0)
-    go false e ih x = ih x
-
-lookup-clean : (j : ℕ) (rs : List (List Operator)) (kind : ℕ) → EachClean rs → isRole (lookup j rs kind) → lexError kind ≡ Nothing
-unfolding lookup isRole
-lookup-clean j [] kind a x = absurd x
-lookup-clean j (r ∷ rs) kind a x = within-clean j r kind (lookup (suc j) rs kind) (a .0) (lookup-clean (suc j) rs kind (a .1)) x
-
-operator-clean : (kind j op : ℕ) → operatorOf kind ≡ binaryOf j op → lexError kind ≡ Nothing
-unfolding operatorOf isRole lexError
-operator-clean kind j op e =
-    lookup-clean 0 levels kind
-    ((refl, tt), ((refl, tt), ((refl, (refl, (refl, (refl, (refl, (refl, tt)))))), ((refl, tt), ((refl, tt), ((refl, tt), ((refl, (refl, tt)), ((refl, (refl, (refl, (refl, tt)))), ((refl, (refl, (refl, (refl, (refl, (refl, (refl, (refl, tt)))))))), tt)))))))))
-    (subst isRole (sym e) tt)
+-- No operator is an error token.
+clean : (k : ℕ) {o op : ℕ} → OneOf (getD levels k []) o op → lexError o ≡ Nothing
+unfolding lexError
+clean = each (λ k o op. lexError o) (λ k o op. Nothing) levels refl
 
 free : {n : Nonterminal} {xs ys : List RowToken} {t : Trees} → Derives n xs ys t → Free xs ys
 unfolding lexError
@@ -82,7 +52,15 @@ free (Chart.items-trailing a) = then (free a) (more refl (more refl done))
 free (Chart.items-more a b) = then (free a) (more refl (free b))
 free Chart.item-plain = more refl done
 free Chart.item-as = more refl (more refl (more refl done))
-free (Chart.binary a b c) = then (free b) (more (operator-clean _ _ _ a) (free c))
+free (Chart.or a b c) = then (free b) (more (clean 0 a) (free c))
+free (Chart.and a b c) = then (free b) (more (clean 1 a) (free c))
+free (Chart.comparison a b c) = then (free b) (more (clean 2 a) (free c))
+free (Chart.pipe a b c) = then (free b) (more (clean 3 a) (free c))
+free (Chart.caret a b c) = then (free b) (more (clean 4 a) (free c))
+free (Chart.ampersand a b c) = then (free b) (more (clean 5 a) (free c))
+free (Chart.shift a b c) = then (free b) (more (clean 6 a) (free c))
+free (Chart.sum a b c) = then (free b) (more (clean 7 a) (free c))
+free (Chart.product a b c) = then (free b) (more (clean 8 a) (free c))
 free (Chart.tighter a) = free a
 free (Chart.minus a) = more refl (free a)
 free (Chart.bang a) = more refl (free a)
@@ -117,12 +95,9 @@ free (Chart.tuple-type a) = more refl (more refl (free a))
 free (Chart.bare-block a) = free a
 free (Chart.conditional a b c) = more refl (then (free a) (then (free b) (free c)))
 free (Chart.match a b) = more refl (then (free a) (more refl (free b)))
-free Chart.arguments-end = more refl done
-free (Chart.arguments-last a) = then (free a) (more refl done)
-free (Chart.arguments-more a b) = then (free a) (more refl (free b))
-free Chart.elements-end = more refl done
-free (Chart.elements-last a) = then (free a) (more refl done)
-free (Chart.elements-more a b) = then (free a) (more refl (free b))
+free Chart.expressions-end = more refl done
+free (Chart.expressions-last a) = then (free a) (more refl done)
+free (Chart.expressions-more a b) = then (free a) (more refl (free b))
 free Chart.types-end = more refl done
 free (Chart.types-last a) = then (free a) (more refl done)
 free (Chart.types-more a b) = then (free a) (more refl (free b))
@@ -166,11 +141,19 @@ free (Chart.comptime-let a) = more refl (more refl (free a))
 free (Chart.let-rule a) = more refl (free a)
 free (Chart.semicolon a b) = then (free b) (more refl done)
 free (Chart.assign a b c) = then (free b) (more refl (then (free c) (more refl done)))
-free (Chart.mid-block a b c d e) = free b
+free (Chart.mid-block a b c d) = free a
 free (Chart.binding-mut a) = more refl (free a)
 free (Chart.binding-fixed a) = free a
 free (Chart.binding-untyped a) = more refl (more refl (then (free a) (more refl done)))
 free (Chart.binding-typed a b) = more refl (more refl (then (free a) (more refl (then (free b) (more refl done)))))
+
+-- What a rule leaves is the end of the row that it was given.
+pub splits : {n : Nonterminal} {xs ys : List RowToken} {t : Trees} → Derives n xs ys t → (zs : List RowToken) × (xs ≡ zs ++ ys)
+splits d = go (free d)
+  where
+    go : {xs ys : List RowToken} → Free xs ys → (zs : List RowToken) × (xs ≡ zs ++ ys)
+    go done = ([], refl)
+    go (more {k} {v} q p) = let (zs, e) = go p in (token k v ∷ zs, ap (λ l. token k v ∷ l) e)
 
 all-free : {xs : List RowToken} → Free xs [] → NoErrors xs
 all-free p = go p refl

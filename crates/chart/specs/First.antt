@@ -6,10 +6,12 @@ use Prim.Native.Nat.{ℕ}
 use lib.Dec.{eqb}
 use borrow.Author.Tests.{eqb-true}
 use Rattle.words.specs.Token
-use Rattle.chart.specs.Row.{RowToken, begins, token, isOver}
-use Rattle.chart.specs.Tree.{Trees}
+use Rattle.chart.specs.Row.{Lexeme, RowToken, begins, token, isOver}
+use Rattle.chart.specs.Tree.{Trees, branch}
 use Rattle.chart.specs.Chart
-use Rattle.chart.specs.Chart.{operatorOf, isBlockLike, Nonterminal, file, declarations, declaration, import, path, items, item, level, postfix, operand, strings, arguments, elements, types, fields, elseIfs, arms, arm, signature, parameters, parameter, parameterType, structBody, methods, block, statements, statement, binding, bindingName}
+use Rattle.chart.specs.Chart.{binaryTree, isBlockLike, Nonterminal, Derives, file, declarations, declaration, import, path, items, item, level, postfix, operand, strings, expressions, types, fields, elseIfs, arms, arm, signature, parameters, parameter, parameterType, structBody, methods, block, statements, statement, binding, bindingName}
+use Rattle.chart.specs.Parser
+use Rattle.chart.specs.Parser.{operatorOf}
 use Rattle.chart.specs.Laws.{below, postStart, stop, clash, and-left, and-right}
 
 abbrev pub among : List ℕ → ℕ → Bool
@@ -104,11 +106,11 @@ brace-at (token k v ∷ xs) e = rw (go (eqb k Token.LeftCurly) e) refl
     go false e = e
 
 pub brace-stops : (xs : List RowToken) → heads (among braceStart) xs ≡ true → stop false 0 xs ≡ true
-unfolding operatorOf Chart.lookup Chart.within below
+unfolding operatorOf Parser.lookup Parser.within below
 brace-stops xs e = stops braceStart false 0 xs refl e
 
 pub meth-stops : (xs : List RowToken) → heads (among methodsStart) xs ≡ true → stop true 0 xs ≡ true
-unfolding operatorOf Chart.lookup Chart.within below
+unfolding operatorOf Parser.lookup Parser.within below
 meth-stops xs e = stops methodsStart true 0 xs refl e
 
 -- What follows an expression: no `else`, and no string unless the expression is a Block, If or Match.
@@ -195,8 +197,7 @@ First (postfix m) xs = heads (among operandStart) xs ≡ true
 First operand xs = heads (among operandStart) xs ≡ true
 First file xs = Unit {0}
 First strings xs = Unit {0}
-First arguments xs = Unit {0}
-First elements xs = Unit {0}
+First expressions xs = Unit {0}
 First types xs = Unit {0}
 First fields xs = Unit {0}
 First elseIfs xs = Unit {0}
@@ -227,8 +228,7 @@ least (postfix m) = 1
 least operand = 1
 least file = 0
 least strings = 0
-least arguments = 1
-least elements = 1
+least expressions = 1
 least types = 1
 least fields = 1
 least elseIfs = 0
@@ -251,3 +251,39 @@ least item = 1
 least (binding c) = 1
 least (bindingName c m) = 1
 least (import p) = 1
+
+-- ---- no Block, If or Match begins with `comptime`: what begins so is a ComptimeBlock, or holds one
+
+comptime-operand : {v : Lexeme} {xs ys : List RowToken} {t : Trees} → Derives operand (token Token.Comptime v ∷ xs) ys t → isBlockLike t ≡ false
+unfolding isBlockLike branch
+comptime-operand (Chart.comptime-block D) = refl
+
+comptime-postfix : {m : Bool} {v : Lexeme} {xs ys : List RowToken} {t : Trees} → Derives (postfix m) (token Token.Comptime v ∷ xs) ys t → isBlockLike t ≡ false
+unfolding isBlockLike branch
+comptime-postfix (Chart.member D) = refl
+comptime-postfix (Chart.call D E) = refl
+comptime-postfix (Chart.struct-literal D E) = refl
+comptime-postfix (Chart.standalone D) = comptime-operand D
+
+comptime-level : {m : Bool} {k : ℕ} {v : Lexeme} {xs ys : List RowToken} {t : Trees} → Derives (level m k) (token Token.Comptime v ∷ xs) ys t → isBlockLike t ≡ false
+unfolding isBlockLike binaryTree branch
+comptime-level (Chart.or a D E) = refl
+comptime-level (Chart.and a D E) = refl
+comptime-level (Chart.comparison a D E) = refl
+comptime-level (Chart.pipe a D E) = refl
+comptime-level (Chart.caret a D E) = refl
+comptime-level (Chart.ampersand a D E) = refl
+comptime-level (Chart.shift a D E) = refl
+comptime-level (Chart.sum a D E) = refl
+comptime-level (Chart.product a D E) = refl
+comptime-level (Chart.tighter D) = comptime-level D
+comptime-level (Chart.unprefixed D) = comptime-postfix D
+
+pub block-start : {m : Bool} {k : ℕ} (xs : List RowToken) {ys : List RowToken} {t : Trees} → Derives (level m k) xs ys t → isBlockLike t ≡ true → begins Token.Comptime xs ≡ false
+unfolding begins
+block-start [] D e = refl
+block-start {m} {k} (token o v ∷ xs) {ys} {t} D e = go (eqb o Token.Comptime) refl
+  where
+    go : (b : Bool) → eqb o Token.Comptime ≡ b → b ≡ false
+    go true q = clash e (comptime-level (subst (λ n. Derives (level m k) (token n v ∷ xs) ys t) (eqb-true o Token.Comptime q) D))
+    go false q = refl

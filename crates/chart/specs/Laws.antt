@@ -1,7 +1,7 @@
 -- Laws of operators and of where an expression stops.
 use mathlib.Core.Path.{_≡_, refl, sym, _∙_, ap, subst}
 use mathlib.Core.Bool.{Bool, true, false, cond, _&&_, _||_, not, true≢false, false≢true}
-use mathlib.Core.List.{List, [], _∷_}
+use mathlib.Core.List.{List, [], _∷_, _++_, flatten}
 use Prim.Native.Nat.{ℕ, suc, _+_, _≤_, _<_}
 use native.Mathlib.Omega.{arith}
 use lib.Dec.{eqb, ltb, leb, T, lit≤, le→leb}
@@ -10,8 +10,8 @@ use lib.ListN.{length}
 use Rattle.words.specs.Token
 use Rattle.chart.specs.Row.{Lexeme, RowToken, begins, token}
 use Rattle.chart.specs.Tree.{Trees}
-use Rattle.chart.specs.Chart.{Operator, levels, Role, within, lookup, operatorOf, prefixLevel, isBinary, continues, Nonterminal, Derives, operator, notBinary, binaryOf}
-use Rattle.chart.specs.Parser.{Outcome, on, onLevel, onOp, ok, nothing, failed, deep}
+use Rattle.chart.specs.Chart.{Operator, operator, levels, isAmong, isBinary, prefixLevel, continues, Nonterminal, Derives}
+use Rattle.chart.specs.Parser.{Role, within, lookup, operatorOf, notBinary, binaryOf, Outcome, on, onLevel, onOp, ok, nothing, failed, deep}
 use Rattle.chart.specs.Outcome.{Meets, if-true, if-false, not-fail, if-elim, on-elim}
 
 unfoldable pub below : Role → ℕ → Bool
@@ -194,20 +194,43 @@ pub need : (C : List RowToken → Type 0) (K : ℕ) (xs : List RowToken) (h : Le
     → ((v : Lexeme) (zs : List RowToken) → h v zs ≡ ok u ws → C (token K v ∷ zs)) → C xs
 need C K xs h e f = on-elim C K xs h failed e f (λ _ q. not-fail q)
 
--- What is none of 01's list of what a Block, If or Match in mid-block isn't followed by stops an expression, and backwards.
-role-loose : (r : Role) → isBinary r ≡ false → below r 0 ≡ true
-unfolding isBinary below
+abbrev pub hasRole : Role → Bool
+hasRole notBinary = false
+hasRole (binaryOf j op) = true
+
+-- The chart's binary operators are the tokens that have a role.
+within-binary : (j : ℕ) (r : List Operator) (kind : ℕ) (rest : Role) (more : List Operator) → hasRole rest ≡ isAmong more kind → hasRole (within j r kind rest) ≡ isAmong (r ++ more) kind
+unfolding within isAmong
+within-binary j [] kind rest more e = e
+within-binary j (operator k op ∷ r) kind rest more e = go (eqb kind k) (within j r kind rest) (isAmong (r ++ more) kind) (within-binary j r kind rest more e)
+  where
+    go : (c : Bool) (x : Role) (y : Bool) → hasRole x ≡ y → hasRole (cond c (binaryOf j op) x) ≡ (c || y)
+    go true x y e = refl
+    go false x y e = e
+
+lookup-binary : (j : ℕ) (rs : List (List Operator)) (kind : ℕ) → hasRole (lookup j rs kind) ≡ isAmong (flatten rs) kind
+unfolding lookup flatten isAmong
+lookup-binary j [] kind = refl
+lookup-binary j (r ∷ rs) kind = within-binary j r kind (lookup (suc j) rs kind) (flatten rs) (lookup-binary (suc j) rs kind)
+
+role-binary : (kind : ℕ) → hasRole (operatorOf kind) ≡ isBinary kind
+unfolding operatorOf isBinary
+role-binary kind = lookup-binary 0 levels kind
+
+role-loose : (r : Role) → hasRole r ≡ false → below r 0 ≡ true
+unfolding below
 role-loose notBinary e = refl
 role-loose (binaryOf j op) e = absurd (true≢false e)
 
-loose-role : (r : Role) → below r 0 ≡ true → isBinary r ≡ false
-unfolding isBinary below
+loose-role : (r : Role) → below r 0 ≡ true → hasRole r ≡ false
+unfolding below
 loose-role notBinary e = refl
 loose-role (binaryOf j op) e = absurd (no-ltb j e)
   where
     no-ltb : (j : ℕ) → ltb j 0 ≡ true → ⊥
     no-ltb j e = let q : j < 0 = ltb-true j 0 e in omega arith
 
+-- What is none of 01's list of what a Block, If or Match in mid-block isn't followed by stops an expression, and backwards.
 pub record Ended (xs : List RowToken) : Type 0 where
   pub stopped : stop true 0 xs ≡ true
   pub equals : begins Token.Equals xs ≡ false
@@ -230,7 +253,7 @@ ended (token k v ∷ xs) e =
     let c = or-right (eqb k Token.LeftCurly) _ b in
     let d = or-right (eqb k Token.Equals) _ c in
     record {
-      stopped = go (eqb k Token.Dot) (eqb k Token.LeftRound) (eqb k Token.LeftCurly) (below (operatorOf k) 0) (or-left (eqb k Token.Dot) _ e) (or-left (eqb k Token.LeftRound) _ a) (or-left (eqb k Token.LeftCurly) _ b) (role-loose (operatorOf k) (or-right (eqb k Token.Semicolon) _ d));
+      stopped = go (eqb k Token.Dot) (eqb k Token.LeftRound) (eqb k Token.LeftCurly) (below (operatorOf k) 0) (or-left (eqb k Token.Dot) _ e) (or-left (eqb k Token.LeftRound) _ a) (or-left (eqb k Token.LeftCurly) _ b) (role-loose (operatorOf k) (role-binary k ∙ or-right (eqb k Token.Semicolon) _ d));
       equals = or-left (eqb k Token.Equals) _ c;
       semicolon = or-left (eqb k Token.Semicolon) _ d;
     }
@@ -242,7 +265,7 @@ pub continues-not : (xs : List RowToken) → stop true 0 xs ≡ true → begins 
 unfolding continues opStop begins
 continues-not [] e f g = refl
 continues-not (token k v ∷ xs) e f g = let s = stop-elim true 0 (token k v ∷ xs) e in
-    go (eqb k Token.Dot) (eqb k Token.LeftRound) (eqb k Token.LeftCurly) (eqb k Token.Equals) (eqb k Token.Semicolon) (isBinary (operatorOf k)) (s .dot) (s .par) (s .brace) f g (loose-role (operatorOf k) (s .op))
+    go (eqb k Token.Dot) (eqb k Token.LeftRound) (eqb k Token.LeftCurly) (eqb k Token.Equals) (eqb k Token.Semicolon) (isBinary k) (s .dot) (s .par) (s .brace) f g (sym (role-binary k) ∙ loose-role (operatorOf k) (s .op))
   where
     go : (a b c d e f : Bool) → a ≡ false → b ≡ false → c ≡ false → d ≡ false → e ≡ false → f ≡ false → (a || (b || (c || (d || (e || f))))) ≡ false
     go a b c d e f p q r s t u = rw (p, q, r, s, t, u) refl

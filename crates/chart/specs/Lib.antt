@@ -4,6 +4,7 @@ pub mod Chart
 pub mod Parser
 pub mod Outcome
 pub mod Laws
+pub mod Levels
 pub mod First
 pub mod Rules
 pub mod Sound

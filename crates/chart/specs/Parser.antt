@@ -1,5 +1,5 @@
 -- A parser of rows, pure and by recursive descent. A number that bounds a list is the length of its row and one more: on a row that is derived it never runs out (`Complete.exact`).
-use mathlib.Core.Bool.{Bool, true, false, _&&_}
+use mathlib.Core.Bool.{Bool, true, false, cond, _&&_}
 use mathlib.Core.List.{List, [], _∷_, _++_}
 use Prim.Native.Nat.{ℕ, zero, suc, _+_}
 use lib.Dec.{eqb, leb}
@@ -11,7 +11,25 @@ use Rattle.words.specs.Flag
 use Rattle.words.specs.UnaryOp
 use Rattle.chart.specs.Row.{Lexeme, RowToken, begins, isOver, token}
 use Rattle.chart.specs.Tree.{Trees, _⊕_, branch, listed, flag, letFlags, named, builtinNamed, anyType, numeral, decoded, decodedHex, quiet, stringTree, flags, name, number, bytes, node, none, _▸_}
-use Rattle.chart.specs.Chart.{Role, operatorOf, prefixLevel, binaryTree, isBlockLike, notBinary, binaryOf, block}
+use Rattle.chart.specs.Chart.{Operator, operator, levels, prefixLevel, binaryTree, isBlockLike, block}
+
+-- What a token is between two operands: no operator, or one of a level, 0 the loosest, with its payload.
+pub data Role : Type 0 where
+  notBinary : Role
+  binaryOf : ℕ → ℕ → Role
+
+-- The role of a token in the row of a level; `rest` is that in the rows of tighter levels.
+unfoldable pub within : ℕ → List Operator → ℕ → Role → Role
+within level [] kind rest = rest
+within level (operator k op ∷ r) kind rest = cond (eqb kind k) (binaryOf level op) (within level r kind rest)
+
+-- The role of a token in the rows from a level on.
+unfoldable pub lookup : ℕ → List (List Operator) → ℕ → Role
+lookup level [] kind = notBinary
+lookup level (r ∷ rs) kind = within level r kind (lookup (suc level) rs kind)
+
+unfoldable pub operatorOf : ℕ → Role
+operatorOf kind = lookup 0 levels kind
 
 -- The trees that were read and the row that is left; no expression begins here; the row is in no rule; or the depth is not enough.
 pub data Outcome : Type 0 where

@@ -7,7 +7,8 @@ use Rattle.words.specs.Words.{tokenKind}
 use Rattle.literals.specs.Spelling.{spelling}
 use Rattle.words.specs.Token
 
--- What a token is besides its kind: its number among all tokens of the text, and its spelling.
+-- What a token is besides its kind: its spelling, and its number among all tokens of the text. The number is there for laws alone: no rule of the
+-- chart and no tree looks at it.
 pub record Lexeme : Type 0 where
   pub number : ℕ
   pub spelling : List ℕ
@@ -27,7 +28,8 @@ rowFrom text tokens i (w ∷ ws) =
     (rowFrom text tokens (suc i) ws)
     (token (tokenKind w) (record { number = i; spelling = spelling text tokens i }) ∷ rowFrom text tokens (suc i) ws)
 
--- "The row is the text's tokens, without Whitespace, line comments, closed block comments and Eof" (01, The wall chart).
+-- "The row is the text's tokens as the definition of demand 2 gives them, without Whitespace, line comments, closed block comments and Eof"
+-- (01, The wall chart).
 abbrev pub row : List ℕ → List ℕ → List RowToken
 row text tokens = rowFrom text tokens 0 tokens
 

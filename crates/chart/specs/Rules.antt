@@ -4,7 +4,7 @@ use mathlib.Core.Bool.{Bool, true, false, _&&_, _||_, not, true≢false, false�
 use mathlib.Core.List.{List, [], _∷_, _++_}
 use Prim.Native.Nat.{ℕ, zero, suc, _+_, _≤_, _<_, pred}
 use native.Mathlib.Omega.{arith}
-use lib.Dec.{eqb, leb, le→leb}
+use lib.Dec.{eqb, le→leb}
 use lib.ListN.{length}
 use Rattle.literals.specs.Strings.{bytesOf}
 use Rattle.words.specs.Token
@@ -13,11 +13,11 @@ use Rattle.words.specs.Flag
 use Rattle.words.specs.UnaryOp
 use Rattle.chart.specs.Row.{Lexeme, RowToken, begins, token}
 use Rattle.chart.specs.Tree.{Trees, _⊕_, branch, listed, flag, letFlags, named, builtinNamed, anyType, numeral, decoded, decodedHex, quiet, stringTree, none}
-use Rattle.chart.specs.Chart
-use Rattle.chart.specs.Chart.{operatorOf, prefixLevel, binaryTree, isBlockLike, isBinary, continues, Nonterminal, notBinary, binaryOf, file, declarations, declaration, import, path, items, item, level, postfix, operand, strings, arguments, elements, types, fields, elseIfs, arms, arm, signature, parameters, parameter, parameterType, structBody, methods, block, statements, statement, binding, bindingName}
-use Rattle.chart.specs.Parser.{Outcome, if, on, bind, try, Readers, push, prepend, readList, readElements, readFields, readOn, readStrings, readElseIfs, readArm, readArms, readParameterType, readParameter, readParameters, readSignature, readMethods, readStructBody, readRound, readStruct, readOperand, readPrefix, readLevel, readBindingName, readBinding, readExpression, readComptime, readStatement, readStatements, readBlock, readers, goesOn, readPath, readItem, readItems, readImport, readDeclaration, readDeclarations, readFile, ok, nothing}
+use Rattle.chart.specs.Parser
+use Rattle.chart.specs.Chart.{prefixLevel, binaryTree, isBlockLike, continues, Nonterminal, file, declarations, declaration, import, path, items, item, level, postfix, operand, strings, expressions, types, fields, elseIfs, arms, arm, signature, parameters, parameter, parameterType, structBody, methods, block, statements, statement, binding, bindingName}
+use Rattle.chart.specs.Parser.{operatorOf, notBinary, binaryOf, Outcome, if, on, bind, try, Readers, push, prepend, readList, readElements, readFields, readOn, readStrings, readElseIfs, readArm, readArms, readParameterType, readParameter, readParameters, readSignature, readMethods, readStructBody, readRound, readStruct, readOperand, readPrefix, readLevel, readBindingName, readBinding, readExpression, readComptime, readStatement, readStatements, readBlock, readers, goesOn, readPath, readItem, readItems, readImport, readDeclaration, readDeclarations, readFile, ok, nothing}
 use Rattle.chart.specs.Outcome.{Meets, good-ok, weaken, good-trans, if-true, if-false, on-hit, on-miss, bind-good, try-good, try-none, same, sunk}
-use Rattle.chart.specs.Laws.{below, stop, to-true, stop-mono, stop-top, opStop, stop-intro, stop-elim, op-hit, op-miss, ended}
+use Rattle.chart.specs.Laws.{hasRole, below, stop, to-true, stop-mono, stop-top, opStop, stop-intro, stop-elim, op-hit, op-miss, ended}
 use Rattle.chart.specs.First.{among, operandStart, expressionStart, armStart, statementStart, statementsStart, methodsStart, declarationStart, braceStart, nameStart, heads, apart, widen, name-at, brace-at, brace-stops, meth-stops, follows, calm, calm-fol, fol-calm, fol-else, fol-block, calm-str, calm-hstr, calms, First, least, not-over}
 
 pub back : (d : ℕ) {s : ℕ} → pred d ≤ s → d ≤ suc s
@@ -36,8 +36,7 @@ Claim (postfix m) s xs ys t = (d i : ℕ) → follows t ys ≡ true → Reach d 
 Claim operand s xs ys t = (d : ℕ) → follows t ys ≡ true → Meets (d ≤ s) (readOperand (readers d) xs) (ok t ys)
 Claim file s xs ys t = (d : ℕ) → Meets (d ≤ s) (readFile (readers d) xs) (ok t ys)
 Claim strings s xs ys t = (d n : ℕ) → length xs < n → calm ys ≡ true → Meets (d ≤ s) (readStrings n xs) (ok t ys)
-Claim arguments s xs ys t = (d n : ℕ) → length xs < n → Meets (d ≤ s) (readList Token.RightRound (readers d) n xs) (ok t ys)
-Claim elements s xs ys t = (d n : ℕ) → length xs < n → Meets (d ≤ s) (readElements (readers d) n xs) (ok t ys)
+Claim expressions s xs ys t = (d n : ℕ) → length xs < n → Meets (d ≤ s) (readList Token.RightRound (readers d) n xs) (ok t ys) × Meets (d ≤ s) (readElements (readers d) n xs) (ok t ys)
 Claim types s xs ys t = (d n : ℕ) → length xs < n → Meets (d ≤ s) (readList Token.RightCurly (readers d) n xs) (ok t ys)
 Claim fields s xs ys t = (d n : ℕ) → length xs < n → Meets (d ≤ s) (readFields (readers d) n xs) (ok t ys)
 Claim elseIfs s xs ys t = (d n : ℕ) → length xs < n → begins Token.Else ys ≡ false → Meets (d ≤ s) (readElseIfs (readers d) n xs) (ok t ys)
@@ -80,9 +79,6 @@ pub ends : {m : Bool} {k : ℕ} {xs ys : List RowToken} {t : Trees} (D : Read (l
 ends {m} {k} {xs} {ys} {t} D e fo d = let r = D .claim d k (omega arith) (stop-mono m k (suc k) ys (omega arith) e) fo in
     good-trans (r .goes) (loop-stop (readers (pred d)) (r .fuel) m k t ys (r .room) e)
 
-reach-weaken : {d : ℕ} {m : Bool} {k s s′ : ℕ} {xs ys : List RowToken} {t : Trees} → s ≤ s′ → Reach d m k s xs ys t → Reach d m k s′ xs ys t
-reach-weaken h r = record { fuel = r .fuel; room = r .room; goes = weaken (λ b. omega arith) (r .goes) }
-
 -- One turn of the loop.
 turn : {d : ℕ} {m : Bool} {k s s′ : ℕ} {xs ys zs : List RowToken} {t u : Trees} → s ≤ s′ → length zs < length ys
     → ((n : ℕ) → Meets (d ≤ s′) (readOn (readers (pred d)) (suc n) m k t ys) (readOn (readers (pred d)) n m k u zs)) → Reach d m k s xs ys t → Reach d m k s′ xs zs u
@@ -104,15 +100,14 @@ fuelled F xs zero l f = absurd (omega arith)
 fuelled F xs (suc n) l f = f n (omega arith)
 
 op-not : (o j op K : ℕ) → operatorOf o ≡ binaryOf j op → operatorOf K ≡ notBinary → eqb o K ≡ false
-unfolding isBinary
 op-not o j op K e h = go (eqb o K) refl
   where
     go : (b : Bool) → eqb o K ≡ b → eqb o K ≡ false
-    go true q = absurd (true≢false (sym (ap isBinary e) ∙ (ap (λ n. isBinary (operatorOf n)) (borrow.Author.Tests.eqb-true o K q) ∙ ap isBinary h)))
+    go true q = absurd (true≢false (sym (ap hasRole e) ∙ (ap (λ n. hasRole (operatorOf n)) (borrow.Author.Tests.eqb-true o K q) ∙ ap hasRole h)))
     go false q = q
 
 op-stops : (m : Bool) (o : ℕ) (v : Lexeme) (k op : ℕ) (ys : List RowToken) → operatorOf o ≡ binaryOf k op → stop m (suc k) (token o v ∷ ys) ≡ true
-unfolding begins opStop operatorOf Chart.lookup Chart.within below
+unfolding begins opStop operatorOf Parser.lookup Parser.within below
 op-stops m o v k op ys e = stop-intro m (suc k) (token o v ∷ ys) (op-not o k op Token.Dot e refl) (op-not o k op Token.LeftRound e refl) (go m (eqb o Token.LeftCurly) (op-not o k op Token.LeftCurly e refl))
     (subst (λ l. below l (suc k) ≡ true) (sym e) (to-true (le→leb (suc k) (suc k) (omega arith))))
   where
@@ -121,7 +116,7 @@ op-stops m o v k op ys e = stop-intro m (suc k) (token o v ∷ ys) (op-not o k o
     go false b h = refl
 
 op-fol : (t : Trees) (o : ℕ) (v : Lexeme) (k op : ℕ) (ys : List RowToken) → operatorOf o ≡ binaryOf k op → follows t (token o v ∷ ys) ≡ true
-unfolding follows operatorOf Chart.lookup Chart.within
+unfolding follows operatorOf Parser.lookup Parser.within
 op-fol t o v k op ys e = go (eqb o Token.Else) (eqb o Token.LooseStringLiteral) (eqb o Token.LooseHexStringLiteral) (op-not o k op Token.Else e refl) (op-not o k op Token.LooseStringLiteral e refl) (op-not o k op Token.LooseHexStringLiteral e refl)
   where
     go : (a b c : Bool) → a ≡ false → b ≡ false → c ≡ false → (not a && (not (b || c) || isBlockLike t)) ≡ true
@@ -212,14 +207,14 @@ r-member D = record {
   claim = λ d i fo. turn (omega arith) (omega arith) (λ n. on-hit _ _ _ _ _ (on-hit _ _ _ _ _ good-ok)) (D .claim d i refl);
 }
 
-pub r-call : {m : Bool} {v : Lexeme} {xs ys zs : List RowToken} {t us : Trees} → Read (postfix m) xs (token Token.LeftRound v ∷ ys) t → Read arguments ys zs us → Read (postfix m) xs zs (branch Node.CallExpr 0 (t ⊕ us))
+pub r-call : {m : Bool} {v : Lexeme} {xs ys zs : List RowToken} {t us : Trees} → Read (postfix m) xs (token Token.LeftRound v ∷ ys) t → Read expressions ys zs us → Read (postfix m) xs zs (branch Node.CallExpr 0 (t ⊕ us))
 unfolding readOn begins follows
 r-call {ys} D E = record {
   first = D .first;
   takes = omega arith;
   size = suc (D .size + E .size);
   claim = λ d i fo. turn (omega arith) (omega arith)
-      (λ n. on-miss _ _ _ _ refl (on-hit _ _ _ _ _ (bind-good _ (weaken (λ b. omega (arith, back d b)) (E .claim (pred d) (suc (length ys)) (omega arith))) good-ok))) (D .claim d i refl);
+      (λ n. on-miss _ _ _ _ refl (on-hit _ _ _ _ _ (bind-good _ (weaken (λ b. omega (arith, back d b)) (E .claim (pred d) (suc (length ys)) (omega arith) .0)) good-ok))) (D .claim d i refl);
 }
 
 pub r-struct-literal : {v : Lexeme} {xs ys zs : List RowToken} {t us : Trees} → Read (postfix true) xs (token Token.LeftCurly v ∷ ys) t → Read fields ys zs us → Read (postfix true) xs zs (branch Node.StructLit 0 (t ⊕ us))
@@ -242,7 +237,7 @@ r-standalone {xs} {ys} D = record {
 }
 
 pub r-true-literal : {v : Lexeme} {xs : List RowToken} → Read operand (token Token.True v ∷ xs) xs (branch Node.BoolLiteral Flag.BoolLiteral-true none)
-unfolding readOperand begins heads on if follows calm stop operatorOf Chart.lookup Chart.within below
+unfolding readOperand begins heads on if follows calm stop operatorOf Parser.lookup Parser.within below
 r-true-literal = record {
   first = refl;
   takes = omega arith;
@@ -251,7 +246,7 @@ r-true-literal = record {
 }
 
 pub r-false-literal : {v : Lexeme} {xs : List RowToken} → Read operand (token Token.False v ∷ xs) xs (branch Node.BoolLiteral 0 none)
-unfolding readOperand begins heads on if follows calm stop operatorOf Chart.lookup Chart.within below
+unfolding readOperand begins heads on if follows calm stop operatorOf Parser.lookup Parser.within below
 r-false-literal = record {
   first = refl;
   takes = omega arith;
@@ -260,7 +255,7 @@ r-false-literal = record {
 }
 
 pub r-decimal : {v : Lexeme} {xs : List RowToken} → Read operand (token Token.DecimalLiteral v ∷ xs) xs (numeral 10 0 v)
-unfolding readOperand begins heads on if follows calm stop operatorOf Chart.lookup Chart.within below
+unfolding readOperand begins heads on if follows calm stop operatorOf Parser.lookup Parser.within below
 r-decimal = record {
   first = refl;
   takes = omega arith;
@@ -269,7 +264,7 @@ r-decimal = record {
 }
 
 pub r-hexadecimal : {v : Lexeme} {xs : List RowToken} → Read operand (token Token.HexLiteral v ∷ xs) xs (numeral 16 2 v)
-unfolding readOperand begins heads on if follows calm stop operatorOf Chart.lookup Chart.within below
+unfolding readOperand begins heads on if follows calm stop operatorOf Parser.lookup Parser.within below
 r-hexadecimal = record {
   first = refl;
   takes = omega arith;
@@ -278,7 +273,7 @@ r-hexadecimal = record {
 }
 
 pub r-binary-number : {v : Lexeme} {xs : List RowToken} → Read operand (token Token.BinLiteral v ∷ xs) xs (numeral 2 2 v)
-unfolding readOperand begins heads on if follows calm stop operatorOf Chart.lookup Chart.within below
+unfolding readOperand begins heads on if follows calm stop operatorOf Parser.lookup Parser.within below
 r-binary-number = record {
   first = refl;
   takes = omega arith;
@@ -287,7 +282,7 @@ r-binary-number = record {
 }
 
 pub r-self-type : {v : Lexeme} {xs : List RowToken} → Read operand (token Token.SelfType v ∷ xs) xs (branch Node.SelfType 0 none)
-unfolding readOperand begins heads on if follows calm stop operatorOf Chart.lookup Chart.within below
+unfolding readOperand begins heads on if follows calm stop operatorOf Parser.lookup Parser.within below
 r-self-type = record {
   first = refl;
   takes = omega arith;
@@ -296,7 +291,7 @@ r-self-type = record {
 }
 
 pub r-name : {v : Lexeme} {xs : List RowToken} → Read operand (token Token.Identifier v ∷ xs) xs (named v)
-unfolding readOperand begins heads on if follows calm stop operatorOf Chart.lookup Chart.within below
+unfolding readOperand begins heads on if follows calm stop operatorOf Parser.lookup Parser.within below
 r-name = record {
   first = refl;
   takes = omega arith;
@@ -305,7 +300,7 @@ r-name = record {
 }
 
 pub r-builtin-name : {v : Lexeme} {xs : List RowToken} → Read operand (token Token.BuiltinName v ∷ xs) xs (builtinNamed v)
-unfolding readOperand begins heads on if follows calm stop operatorOf Chart.lookup Chart.within below
+unfolding readOperand begins heads on if follows calm stop operatorOf Parser.lookup Parser.within below
 r-builtin-name = record {
   first = refl;
   takes = omega arith;
@@ -314,7 +309,7 @@ r-builtin-name = record {
 }
 
 pub r-string : {v : Lexeme} {xs ys : List RowToken} {bs : List ℕ} → quiet (decoded v) ≡ true → Read strings xs ys (stringTree bs) → Read operand (token Token.LooseStringLiteral v ∷ xs) ys (stringTree (bytesOf (decoded v) ++ bs))
-unfolding readOperand begins heads on if follows calm stop operatorOf Chart.lookup Chart.within below isBlockLike branch prepend
+unfolding readOperand begins heads on if follows calm stop operatorOf Parser.lookup Parser.within below isBlockLike branch prepend
 r-string {xs} {ys} q D = record {
   first = refl;
   takes = omega arith;
@@ -323,7 +318,7 @@ r-string {xs} {ys} q D = record {
 }
 
 pub r-hex-string : {v : Lexeme} {xs ys : List RowToken} {bs : List ℕ} → quiet (decodedHex v) ≡ true → Read strings xs ys (stringTree bs) → Read operand (token Token.LooseHexStringLiteral v ∷ xs) ys (stringTree (bytesOf (decodedHex v) ++ bs))
-unfolding readOperand begins heads on if follows calm stop operatorOf Chart.lookup Chart.within below isBlockLike branch prepend
+unfolding readOperand begins heads on if follows calm stop operatorOf Parser.lookup Parser.within below isBlockLike branch prepend
 r-hex-string {xs} {ys} q D = record {
   first = refl;
   takes = omega arith;
@@ -332,7 +327,7 @@ r-hex-string {xs} {ys} q D = record {
 }
 
 pub r-unit : {v w : Lexeme} {xs : List RowToken} → Read operand (token Token.LeftRound v ∷ token Token.RightRound w ∷ xs) xs (branch Node.TupleLit 0 none)
-unfolding readOperand begins heads on if follows calm stop operatorOf Chart.lookup Chart.within below readRound
+unfolding readOperand begins heads on if follows calm stop operatorOf Parser.lookup Parser.within below readRound
 r-unit = record {
   first = refl;
   takes = omega arith;
@@ -341,7 +336,7 @@ r-unit = record {
 }
 
 pub r-paren : {v w : Lexeme} {xs ys : List RowToken} {t : Trees} → Read (level true 0) xs (token Token.RightRound w ∷ ys) t → Read operand (token Token.LeftRound v ∷ xs) ys (branch Node.ParenExpr 0 t)
-unfolding readRound begins heads follows calm stop operatorOf Chart.lookup Chart.within below
+unfolding readRound begins heads follows calm stop operatorOf Parser.lookup Parser.within below
 r-paren {xs} D = record {
   first = refl;
   takes = omega arith;
@@ -349,17 +344,17 @@ r-paren {xs} D = record {
   claim = λ d fo. enter-lpar _ _ _ (on-miss _ _ _ _ (apart (among expressionStart) Token.RightRound xs refl (D .first)) (bind-good _ (weaken (λ b. omega arith) (ends D refl refl d)) (on-miss _ _ _ _ refl (on-hit _ _ _ _ _ (good-ok)))));
 }
 
-pub r-tuple : {v w : Lexeme} {xs ys zs : List RowToken} {t us : Trees} → Read (level true 0) xs (token Token.Comma w ∷ ys) t → Read elements ys zs us → Read operand (token Token.LeftRound v ∷ xs) zs (branch Node.TupleLit 0 (t ⊕ us))
-unfolding readRound begins heads follows calm stop operatorOf Chart.lookup Chart.within below
+pub r-tuple : {v w : Lexeme} {xs ys zs : List RowToken} {t us : Trees} → Read (level true 0) xs (token Token.Comma w ∷ ys) t → Read expressions ys zs us → Read operand (token Token.LeftRound v ∷ xs) zs (branch Node.TupleLit 0 (t ⊕ us))
+unfolding readRound begins heads follows calm stop operatorOf Parser.lookup Parser.within below
 r-tuple {xs} {ys} D E = record {
   first = refl;
   takes = omega arith;
   size = D .size + E .size;
-  claim = λ d fo. enter-lpar _ _ _ (on-miss _ _ _ _ (apart (among expressionStart) Token.RightRound xs refl (D .first)) (bind-good _ (weaken (λ b. omega arith) (ends D refl refl d)) (on-hit _ _ _ _ _ (bind-good _ (weaken (λ b. omega arith) (E .claim d (suc (length ys)) (omega arith))) (good-ok)))));
+  claim = λ d fo. enter-lpar _ _ _ (on-miss _ _ _ _ (apart (among expressionStart) Token.RightRound xs refl (D .first)) (bind-good _ (weaken (λ b. omega arith) (ends D refl refl d)) (on-hit _ _ _ _ _ (bind-good _ (weaken (λ b. omega arith) (E .claim d (suc (length ys)) (omega arith) .1)) (good-ok)))));
 }
 
 pub r-comptime-block : {v : Lexeme} {xs ys : List RowToken} {b : Trees} → Read block xs ys b → Read operand (token Token.Comptime v ∷ xs) ys (branch Node.ComptimeBlock 0 b)
-unfolding readOperand begins heads on if follows calm stop operatorOf Chart.lookup Chart.within below
+unfolding readOperand begins heads on if follows calm stop operatorOf Parser.lookup Parser.within below
 r-comptime-block D = record {
   first = refl;
   takes = omega arith;
@@ -368,7 +363,7 @@ r-comptime-block D = record {
 }
 
 pub r-eager-function : {v w : Lexeme} {xs ys : List RowToken} {t : Trees} → Read signature xs ys t → Read operand (token Token.Eager v ∷ token Token.Fn w ∷ xs) ys (branch Node.FnDef Flag.FnDef-eager t)
-unfolding readOperand begins heads on if follows calm stop operatorOf Chart.lookup Chart.within below
+unfolding readOperand begins heads on if follows calm stop operatorOf Parser.lookup Parser.within below
 r-eager-function D = record {
   first = refl;
   takes = omega arith;
@@ -377,7 +372,7 @@ r-eager-function D = record {
 }
 
 pub r-function : {v : Lexeme} {xs ys : List RowToken} {t : Trees} → Read signature xs ys t → Read operand (token Token.Fn v ∷ xs) ys (branch Node.FnDef 0 t)
-unfolding readOperand begins heads on if follows calm stop operatorOf Chart.lookup Chart.within below
+unfolding readOperand begins heads on if follows calm stop operatorOf Parser.lookup Parser.within below
 r-function D = record {
   first = refl;
   takes = omega arith;
@@ -386,7 +381,7 @@ r-function D = record {
 }
 
 pub r-struct : {v w : Lexeme} {xs ys : List RowToken} {t : Trees} → Read structBody xs ys t → Read operand (token Token.Struct v ∷ token Token.LeftCurly w ∷ xs) ys (branch Node.StructDef 0 (branch Node.StructBody 0 t))
-unfolding readOperand begins heads on if follows calm stop operatorOf Chart.lookup Chart.within below readStruct
+unfolding readOperand begins heads on if follows calm stop operatorOf Parser.lookup Parser.within below readStruct
 r-struct {xs} D = record {
   first = refl;
   takes = omega arith;
@@ -395,7 +390,7 @@ r-struct {xs} D = record {
 }
 
 pub r-indexed-struct : {v w : Lexeme} {xs ys zs : List RowToken} {t u : Trees} → begins Token.LeftCurly xs ≡ false → Read (level false 0) xs (token Token.LeftCurly w ∷ ys) t → Read structBody ys zs u → Read operand (token Token.Struct v ∷ xs) zs (branch Node.StructDef 0 (t ⊕ branch Node.StructBody 0 u))
-unfolding readStruct begins heads follows calm stop operatorOf Chart.lookup Chart.within below
+unfolding readStruct begins heads follows calm stop operatorOf Parser.lookup Parser.within below
 r-indexed-struct {xs} {ys} h D E = record {
   first = refl;
   takes = omega arith;
@@ -404,7 +399,7 @@ r-indexed-struct {xs} {ys} h D E = record {
 }
 
 pub r-tuple-type : {v w : Lexeme} {xs ys : List RowToken} {t : Trees} → Read types xs ys t → Read operand (token Token.Tuple v ∷ token Token.LeftCurly w ∷ xs) ys (branch Node.TupleType 0 t)
-unfolding readOperand begins heads on if follows calm stop operatorOf Chart.lookup Chart.within below
+unfolding readOperand begins heads on if follows calm stop operatorOf Parser.lookup Parser.within below
 r-tuple-type {xs} D = record {
   first = refl;
   takes = omega arith;
@@ -413,7 +408,7 @@ r-tuple-type {xs} D = record {
 }
 
 pub r-bare-block : {v : Lexeme} {xs ys : List RowToken} {b : Trees} → Read block (token Token.LeftCurly v ∷ xs) ys b → Read operand (token Token.LeftCurly v ∷ xs) ys (branch Node.Block 0 b)
-unfolding readOperand begins heads on if follows calm stop operatorOf Chart.lookup Chart.within below
+unfolding readOperand begins heads on if follows calm stop operatorOf Parser.lookup Parser.within below
 r-bare-block D = record {
   first = refl;
   takes = omega arith;
@@ -422,7 +417,7 @@ r-bare-block D = record {
 }
 
 pub r-conditional : {v : Lexeme} {xs ys zs ws : List RowToken} {c b e : Trees} → Read (level false 0) xs ys c → Read block ys zs b → Read elseIfs zs ws e → Read operand (token Token.If v ∷ xs) ws (branch Node.If 0 (c ⊕ (branch Node.Block 0 b ⊕ e)))
-unfolding readOperand begins heads on if follows calm stop operatorOf Chart.lookup Chart.within below
+unfolding readOperand begins heads on if follows calm stop operatorOf Parser.lookup Parser.within below
 r-conditional {ys} {zs} {ws} C D E = record {
   first = refl;
   takes = omega arith;
@@ -431,7 +426,7 @@ r-conditional {ys} {zs} {ws} C D E = record {
 }
 
 pub r-match : {v w : Lexeme} {xs ys zs : List RowToken} {c a : Trees} → Read (level false 0) xs (token Token.LeftCurly w ∷ ys) c → Read arms ys zs a → Read operand (token Token.Match v ∷ xs) zs (branch Node.Match 0 (c ⊕ branch Node.MatchArmList 0 a))
-unfolding readOperand begins heads on if follows calm stop operatorOf Chart.lookup Chart.within below
+unfolding readOperand begins heads on if follows calm stop operatorOf Parser.lookup Parser.within below
 r-match {ys} D E = record {
   first = refl;
   takes = omega arith;
@@ -466,35 +461,41 @@ r-strings-more-hex q D = record {
   claim = λ d n l cm. fuelled (readStrings) _ n l (λ i l. if-true _ _ _ q (bind-good _ (weaken (λ b. omega arith) (D .claim d i (omega arith) cm)) (good-ok)));
 }
 
-pub r-arguments-end : {v : Lexeme} {xs : List RowToken} → Read arguments (token Token.RightRound v ∷ xs) xs none
-unfolding readList begins heads on if follows calm stop operatorOf Chart.lookup Chart.within below
-r-arguments-end {v} {xs} = record {
+pub r-expressions-end : {v : Lexeme} {xs : List RowToken} → Read expressions (token Token.RightRound v ∷ xs) xs none
+unfolding readList readElements begins heads on if follows calm stop operatorOf Parser.lookup Parser.within below
+r-expressions-end {v} {xs} = record {
   first = tt;
   takes = omega arith;
   size = 0;
-  claim = λ d n l. fuelled (readList Token.RightRound (readers d)) _ n l (λ i l. try-none _ _ (no-expr true 0 v xs d) good-ok);
+  claim = λ d n l. (fuelled (readList Token.RightRound (readers d)) _ n l (λ i l. try-none _ _ (no-expr true 0 v xs d) good-ok), fuelled (readElements (readers d)) _ n l (λ i l. good-ok));
 }
 
-pub r-arguments-last : {v : Lexeme} {xs ys : List RowToken} {t : Trees} → Read (level true 0) xs (token Token.RightRound v ∷ ys) t → Read arguments xs ys t
-unfolding readList begins heads on if follows calm stop operatorOf Chart.lookup Chart.within below
-r-arguments-last D = record {
+pub r-expressions-last : {v : Lexeme} {xs ys : List RowToken} {t : Trees} → Read (level true 0) xs (token Token.RightRound v ∷ ys) t → Read expressions xs ys t
+unfolding readList readElements begins heads follows calm stop operatorOf Parser.lookup Parser.within below
+r-expressions-last {xs} D = record {
   first = tt;
   takes = omega arith;
   size = D .size;
-  claim = λ d n l. fuelled (readList Token.RightRound (readers d)) _ n l (λ i l. try-good _ _ (ends D refl refl d) good-ok);
+  claim = λ d n l. (
+    fuelled (readList Token.RightRound (readers d)) _ n l (λ i l. try-good _ _ (ends D refl refl d) (on-miss _ _ _ _ refl (on-hit _ _ _ _ _ good-ok))),
+    fuelled (readElements (readers d)) _ n l (λ i l. on-miss _ _ _ _ (apart (among expressionStart) Token.RightRound xs refl (D .first)) (bind-good _ (ends D refl refl d) (on-miss _ _ _ _ refl (on-hit _ _ _ _ _ good-ok)))),
+  );
 }
 
-pub r-arguments-more : {v : Lexeme} {xs ys zs : List RowToken} {t us : Trees} → Read (level true 0) xs (token Token.Comma v ∷ ys) t → Read arguments ys zs us → Read arguments xs zs (t ⊕ us)
-unfolding readList begins heads on if follows calm stop operatorOf Chart.lookup Chart.within below
-r-arguments-more D E = record {
+pub r-expressions-more : {v : Lexeme} {xs ys zs : List RowToken} {t us : Trees} → Read (level true 0) xs (token Token.Comma v ∷ ys) t → Read expressions ys zs us → Read expressions xs zs (t ⊕ us)
+unfolding readList readElements begins heads follows calm stop operatorOf Parser.lookup Parser.within below
+r-expressions-more {xs} D E = record {
   first = tt;
   takes = omega arith;
   size = D .size + E .size;
-  claim = λ d n l. fuelled (readList Token.RightRound (readers d)) _ n l (λ i l. try-good _ _ (weaken (λ b. omega arith) (ends D refl refl d)) (bind-good _ (weaken (λ b. omega arith) (E .claim d i (omega arith))) (good-ok)));
+  claim = λ d n l. (
+    fuelled (readList Token.RightRound (readers d)) _ n l (λ i l. try-good _ _ (weaken (λ b. omega arith) (ends D refl refl d)) (on-hit _ _ _ _ _ (bind-good _ (weaken (λ b. omega arith) (E .claim d i (omega arith) .0)) good-ok))),
+    fuelled (readElements (readers d)) _ n l (λ i l. on-miss _ _ _ _ (apart (among expressionStart) Token.RightRound xs refl (D .first)) (bind-good _ (weaken (λ b. omega arith) (ends D refl refl d)) (on-hit _ _ _ _ _ (bind-good _ (weaken (λ b. omega arith) (E .claim d i (omega arith) .1)) good-ok)))),
+  );
 }
 
 pub r-types-end : {v : Lexeme} {xs : List RowToken} → Read types (token Token.RightCurly v ∷ xs) xs none
-unfolding readList begins heads on if follows calm stop operatorOf Chart.lookup Chart.within below
+unfolding readList begins heads on if follows calm stop operatorOf Parser.lookup Parser.within below
 r-types-end {v} {xs} = record {
   first = tt;
   takes = omega arith;
@@ -503,7 +504,7 @@ r-types-end {v} {xs} = record {
 }
 
 pub r-types-last : {v : Lexeme} {xs ys : List RowToken} {t : Trees} → Read (level true 0) xs (token Token.RightCurly v ∷ ys) t → Read types xs ys t
-unfolding readList begins heads on if follows calm stop operatorOf Chart.lookup Chart.within below
+unfolding readList begins heads on if follows calm stop operatorOf Parser.lookup Parser.within below
 r-types-last D = record {
   first = tt;
   takes = omega arith;
@@ -512,7 +513,7 @@ r-types-last D = record {
 }
 
 pub r-types-more : {v : Lexeme} {xs ys zs : List RowToken} {t us : Trees} → Read (level true 0) xs (token Token.Comma v ∷ ys) t → Read types ys zs us → Read types xs zs (t ⊕ us)
-unfolding readList begins heads on if follows calm stop operatorOf Chart.lookup Chart.within below
+unfolding readList begins heads on if follows calm stop operatorOf Parser.lookup Parser.within below
 r-types-more D E = record {
   first = tt;
   takes = omega arith;
@@ -520,35 +521,8 @@ r-types-more D E = record {
   claim = λ d n l. fuelled (readList Token.RightCurly (readers d)) _ n l (λ i l. try-good _ _ (weaken (λ b. omega arith) (ends D refl refl d)) (bind-good _ (weaken (λ b. omega arith) (E .claim d i (omega arith))) (good-ok)));
 }
 
-pub r-elements-end : {v : Lexeme} {xs : List RowToken} → Read elements (token Token.RightRound v ∷ xs) xs none
-unfolding readElements begins heads on if follows calm stop operatorOf Chart.lookup Chart.within below
-r-elements-end = record {
-  first = tt;
-  takes = omega arith;
-  size = 0;
-  claim = λ d n l. fuelled (readElements (readers d)) _ n l (λ i l. good-ok);
-}
-
-pub r-elements-last : {v : Lexeme} {xs ys : List RowToken} {t : Trees} → Read (level true 0) xs (token Token.RightRound v ∷ ys) t → Read elements xs ys t
-unfolding readElements begins heads follows calm stop operatorOf Chart.lookup Chart.within below
-r-elements-last {xs} D = record {
-  first = tt;
-  takes = omega arith;
-  size = D .size;
-  claim = λ d n l. fuelled (readElements (readers d)) _ n l (λ i l. on-miss _ _ _ _ (apart (among expressionStart) Token.RightRound xs refl (D .first)) (bind-good _ (weaken (λ b. omega arith) (ends D refl refl d)) (on-miss _ _ _ _ refl (on-hit _ _ _ _ _ (good-ok)))));
-}
-
-pub r-elements-more : {v : Lexeme} {xs ys zs : List RowToken} {t us : Trees} → Read (level true 0) xs (token Token.Comma v ∷ ys) t → Read elements ys zs us → Read elements xs zs (t ⊕ us)
-unfolding readElements begins heads follows calm stop operatorOf Chart.lookup Chart.within below
-r-elements-more {xs} D E = record {
-  first = tt;
-  takes = omega arith;
-  size = D .size + E .size;
-  claim = λ d n l. fuelled (readElements (readers d)) _ n l (λ i l. on-miss _ _ _ _ (apart (among expressionStart) Token.RightRound xs refl (D .first)) (bind-good _ (weaken (λ b. omega arith) (ends D refl refl d)) (on-hit _ _ _ _ _ (bind-good _ (weaken (λ b. omega arith) (E .claim d i (omega arith))) (good-ok)))));
-}
-
 pub r-fields-end : {v : Lexeme} {xs : List RowToken} → Read fields (token Token.RightCurly v ∷ xs) xs none
-unfolding readFields begins heads on if follows calm stop operatorOf Chart.lookup Chart.within below
+unfolding readFields begins heads on if follows calm stop operatorOf Parser.lookup Parser.within below
 r-fields-end = record {
   first = tt;
   takes = omega arith;
@@ -557,7 +531,7 @@ r-fields-end = record {
 }
 
 pub r-fields-last : {v w u : Lexeme} {xs ys : List RowToken} {t : Trees} → Read (level true 0) xs (token Token.RightCurly u ∷ ys) t → Read fields (token Token.Identifier v ∷ token Token.Colon w ∷ xs) ys (branch Node.FieldAssign 0 (named v ⊕ t))
-unfolding readFields begins heads on if follows calm stop operatorOf Chart.lookup Chart.within below
+unfolding readFields begins heads on if follows calm stop operatorOf Parser.lookup Parser.within below
 r-fields-last D = record {
   first = tt;
   takes = omega arith;
@@ -566,7 +540,7 @@ r-fields-last D = record {
 }
 
 pub r-fields-more : {v w u : Lexeme} {xs ys zs : List RowToken} {t us : Trees} → Read (level true 0) xs (token Token.Comma u ∷ ys) t → Read fields ys zs us → Read fields (token Token.Identifier v ∷ token Token.Colon w ∷ xs) zs (branch Node.FieldAssign 0 (named v ⊕ t) ⊕ us)
-unfolding readFields begins heads on if follows calm stop operatorOf Chart.lookup Chart.within below
+unfolding readFields begins heads on if follows calm stop operatorOf Parser.lookup Parser.within below
 r-fields-more D E = record {
   first = tt;
   takes = omega arith;
@@ -611,7 +585,7 @@ r-arms-end = record {
 }
 
 pub r-arms-last : {v : Lexeme} {xs ys : List RowToken} {t : Trees} → Read arm xs (token Token.RightCurly v ∷ ys) t → Read arms xs ys t
-unfolding readArms begins heads follows calm stop operatorOf Chart.lookup Chart.within below
+unfolding readArms begins heads follows calm stop operatorOf Parser.lookup Parser.within below
 r-arms-last {xs} D = record {
   first = tt;
   takes = omega arith;
@@ -620,7 +594,7 @@ r-arms-last {xs} D = record {
 }
 
 pub r-arms-more : {v : Lexeme} {xs ys zs : List RowToken} {t us : Trees} → Read arm xs (token Token.Comma v ∷ ys) t → Read arms ys zs us → Read arms xs zs (t ⊕ us)
-unfolding readArms begins heads follows calm stop operatorOf Chart.lookup Chart.within below
+unfolding readArms begins heads follows calm stop operatorOf Parser.lookup Parser.within below
 r-arms-more {xs} D E = record {
   first = tt;
   takes = omega arith;
@@ -647,7 +621,7 @@ r-arm-else-name {ys} D = record {
 }
 
 pub r-arm-key : {v : Lexeme} {xs ys zs : List RowToken} {t u : Trees} → Read (level true 0) xs (token Token.FatArrow v ∷ ys) t → Read (level true 0) ys zs u → Read arm xs zs (branch Node.MatchArm 0 (t ⊕ u))
-unfolding readArm begins heads follows calm stop operatorOf Chart.lookup Chart.within below
+unfolding readArm begins heads follows calm stop operatorOf Parser.lookup Parser.within below
 r-arm-key {xs} {zs = zs} D E = record {
   first = widen expressionStart (among armStart) xs refl (D .first);
   takes = omega arith;
@@ -674,7 +648,7 @@ r-parameters-end = record {
 }
 
 pub r-parameters-last : {v : Lexeme} {xs ys : List RowToken} {t : Trees} → Read parameter xs (token Token.RightRound v ∷ ys) t → Read parameters xs ys t
-unfolding readParameters begins heads on if follows calm stop operatorOf Chart.lookup Chart.within below
+unfolding readParameters begins heads on if follows calm stop operatorOf Parser.lookup Parser.within below
 r-parameters-last D = record {
   first = tt;
   takes = omega arith;
@@ -683,7 +657,7 @@ r-parameters-last D = record {
 }
 
 pub r-parameters-more : {v : Lexeme} {xs ys zs : List RowToken} {t us : Trees} → Read parameter xs (token Token.Comma v ∷ ys) t → Read parameters ys zs us → Read parameters xs zs (t ⊕ us)
-unfolding readParameters begins heads on if follows calm stop operatorOf Chart.lookup Chart.within below
+unfolding readParameters begins heads on if follows calm stop operatorOf Parser.lookup Parser.within below
 r-parameters-more D E = record {
   first = tt;
   takes = omega arith;
@@ -746,7 +720,7 @@ r-struct-field-last {ys} D E = record {
 }
 
 pub r-struct-field-more : {v w u : Lexeme} {xs ys zs : List RowToken} {t us : Trees} → Read (level true 0) xs (token Token.Comma u ∷ ys) t → Read structBody ys zs us → Read structBody (token Token.Identifier v ∷ token Token.Colon w ∷ xs) zs (branch Node.FieldDef 0 (named v ⊕ t) ⊕ us)
-unfolding readStructBody begins heads on if follows calm stop operatorOf Chart.lookup Chart.within below
+unfolding readStructBody begins heads on if follows calm stop operatorOf Parser.lookup Parser.within below
 r-struct-field-more D E = record {
   first = tt;
   takes = omega arith;
@@ -812,7 +786,7 @@ r-statements-more {xs} {ys} D E = record {
 }
 
 pub r-closing : {v : Lexeme} {xs ys : List RowToken} {t : Trees} → begins Token.Comptime xs ≡ false → Read (level true 0) xs (token Token.RightCurly v ∷ ys) t → Read statements xs ys (listed Node.StatementsList none t)
-unfolding readStatements readExpression begins heads follows calm stop operatorOf Chart.lookup Chart.within below
+unfolding readStatements readExpression begins heads follows calm stop operatorOf Parser.lookup Parser.within below
 r-closing {xs} h D = record {
   first = widen expressionStart (among statementsStart) xs refl (D .first);
   takes = omega arith;
@@ -830,7 +804,7 @@ r-closing-comptime {xs} D = record {
 }
 
 pub r-while : {v : Lexeme} {xs ys zs : List RowToken} {c b : Trees} → Read (level false 0) xs ys c → Read block ys zs b → Read statement (token Token.While v ∷ xs) zs (branch Node.WhileStmt 0 (c ⊕ branch Node.Block 0 b))
-unfolding readStatement begins heads on if follows calm stop operatorOf Chart.lookup Chart.within below
+unfolding readStatement begins heads on if follows calm stop operatorOf Parser.lookup Parser.within below
 r-while {ys} D E = record {
   first = refl;
   takes = omega arith;
@@ -839,7 +813,7 @@ r-while {ys} D E = record {
 }
 
 pub r-inline-while : {u v : Lexeme} {xs ys zs : List RowToken} {c b : Trees} → Read (level false 0) xs ys c → Read block ys zs b → Read statement (token Token.Inline u ∷ token Token.While v ∷ xs) zs (branch Node.InlineWhileStmt 0 (c ⊕ branch Node.Block 0 b))
-unfolding readStatement begins heads on if follows calm stop operatorOf Chart.lookup Chart.within below
+unfolding readStatement begins heads on if follows calm stop operatorOf Parser.lookup Parser.within below
 r-inline-while {ys} D E = record {
   first = refl;
   takes = omega arith;
@@ -848,7 +822,7 @@ r-inline-while {ys} D E = record {
 }
 
 pub r-return : {v w : Lexeme} {xs ys : List RowToken} {t : Trees} → Read (level true 0) xs (token Token.Semicolon w ∷ ys) t → Read statement (token Token.Return v ∷ xs) ys (branch Node.ReturnStmt 0 t)
-unfolding readStatement begins heads on if follows calm stop operatorOf Chart.lookup Chart.within below
+unfolding readStatement begins heads on if follows calm stop operatorOf Parser.lookup Parser.within below
 r-return D = record {
   first = refl;
   takes = omega arith;
@@ -857,7 +831,7 @@ r-return D = record {
 }
 
 pub r-comptime-semicolon : {v w : Lexeme} {xs ys : List RowToken} {b : Trees} → Read block xs (token Token.Semicolon v ∷ ys) b → Read statement (token Token.Comptime w ∷ xs) ys (branch Node.ComptimeBlock 0 b)
-unfolding readComptime begins heads follows calm stop operatorOf Chart.lookup Chart.within below
+unfolding readComptime begins heads follows calm stop operatorOf Parser.lookup Parser.within below
 r-comptime-semicolon {xs} D = record {
   first = refl;
   takes = omega arith;
@@ -866,7 +840,7 @@ r-comptime-semicolon {xs} D = record {
 }
 
 pub r-comptime-mid : {w : Lexeme} {xs ys : List RowToken} {b : Trees} → Read block xs ys b → begins Token.RightCurly ys ≡ false → Read statement (token Token.Comptime w ∷ xs) ys (branch Node.ComptimeBlock 0 b)
-unfolding readComptime begins heads follows calm stop operatorOf Chart.lookup Chart.within below
+unfolding readComptime begins heads follows calm stop operatorOf Parser.lookup Parser.within below
 r-comptime-mid {xs} D nr = record {
   first = refl;
   takes = omega arith;
@@ -875,7 +849,7 @@ r-comptime-mid {xs} D nr = record {
 }
 
 pub r-comptime-let : {v w : Lexeme} {xs ys : List RowToken} {t : Trees} → Read (binding true) xs ys t → Read statement (token Token.Comptime v ∷ token Token.Let w ∷ xs) ys t
-unfolding readStatement begins heads on if follows calm stop operatorOf Chart.lookup Chart.within below readComptime
+unfolding readStatement begins heads on if follows calm stop operatorOf Parser.lookup Parser.within below readComptime
 r-comptime-let D = record {
   first = refl;
   takes = omega arith;
@@ -884,7 +858,7 @@ r-comptime-let D = record {
 }
 
 pub r-let-rule : {v : Lexeme} {xs ys : List RowToken} {t : Trees} → Read (binding false) xs ys t → Read statement (token Token.Let v ∷ xs) ys t
-unfolding readStatement begins heads on if follows calm stop operatorOf Chart.lookup Chart.within below
+unfolding readStatement begins heads on if follows calm stop operatorOf Parser.lookup Parser.within below
 r-let-rule D = record {
   first = refl;
   takes = omega arith;
@@ -893,7 +867,7 @@ r-let-rule D = record {
 }
 
 pub r-semicolon : {v : Lexeme} {xs ys : List RowToken} {t : Trees} → begins Token.Comptime xs ≡ false → Read (level true 0) xs (token Token.Semicolon v ∷ ys) t → Read statement xs ys t
-unfolding readExpression begins heads on if follows calm stop operatorOf Chart.lookup Chart.within below
+unfolding readExpression begins heads on if follows calm stop operatorOf Parser.lookup Parser.within below
 r-semicolon {xs} h D = record {
   first = widen expressionStart (among statementStart) xs refl (D .first);
   takes = omega arith;
@@ -902,7 +876,7 @@ r-semicolon {xs} h D = record {
 }
 
 pub r-assign : {v w : Lexeme} {xs ys zs : List RowToken} {t u : Trees} → begins Token.Comptime xs ≡ false → Read (level true 0) xs (token Token.Equals v ∷ ys) t → Read (level true 0) ys (token Token.Semicolon w ∷ zs) u → Read statement xs zs (branch Node.AssignStmt 0 (t ⊕ u))
-unfolding readExpression begins heads on if follows calm stop operatorOf Chart.lookup Chart.within below
+unfolding readExpression begins heads on if follows calm stop operatorOf Parser.lookup Parser.within below
 r-assign {xs} h D E = record {
   first = widen expressionStart (among statementStart) xs refl (D .first);
   takes = omega arith;
@@ -938,7 +912,7 @@ r-binding-fixed {xs} D = record {
 }
 
 pub r-binding-untyped : {c m : Bool} {v w u : Lexeme} {xs ys : List RowToken} {t : Trees} → Read (level true 0) xs (token Token.Semicolon u ∷ ys) t → Read (bindingName c m) (token Token.Identifier v ∷ token Token.Equals w ∷ xs) ys (branch Node.LetStmt (letFlags c m false) (named v ⊕ t))
-unfolding readBindingName begins heads on if follows calm stop operatorOf Chart.lookup Chart.within below
+unfolding readBindingName begins heads on if follows calm stop operatorOf Parser.lookup Parser.within below
 r-binding-untyped D = record {
   first = refl;
   takes = omega arith;
@@ -947,7 +921,7 @@ r-binding-untyped D = record {
 }
 
 pub r-binding-typed : {c m : Bool} {v w u z : Lexeme} {xs ys zs : List RowToken} {s t : Trees} → Read (level true 0) xs (token Token.Equals u ∷ ys) s → Read (level true 0) ys (token Token.Semicolon z ∷ zs) t → Read (bindingName c m) (token Token.Identifier v ∷ token Token.Colon w ∷ xs) zs (branch Node.LetStmt (letFlags c m true) (named v ⊕ (s ⊕ t)))
-unfolding readBindingName begins heads on if follows calm stop operatorOf Chart.lookup Chart.within below
+unfolding readBindingName begins heads on if follows calm stop operatorOf Parser.lookup Parser.within below
 r-binding-typed D E = record {
   first = refl;
   takes = omega arith;
@@ -978,7 +952,7 @@ r-declarations-more D E = record {
 }
 
 pub r-init : {v : Lexeme} {xs ys : List RowToken} {b : Trees} → Read block xs ys b → Read declaration (token Token.Init v ∷ xs) ys (branch Node.InitBlock 0 b)
-unfolding readDeclaration begins heads on if follows calm stop operatorOf Chart.lookup Chart.within below
+unfolding readDeclaration begins heads on if follows calm stop operatorOf Parser.lookup Parser.within below
 r-init D = record {
   first = refl;
   takes = omega arith;
@@ -987,7 +961,7 @@ r-init D = record {
 }
 
 pub r-run : {v : Lexeme} {xs ys : List RowToken} {b : Trees} → Read block xs ys b → Read declaration (token Token.Run v ∷ xs) ys (branch Node.RunBlock 0 b)
-unfolding readDeclaration begins heads on if follows calm stop operatorOf Chart.lookup Chart.within below
+unfolding readDeclaration begins heads on if follows calm stop operatorOf Parser.lookup Parser.within below
 r-run D = record {
   first = refl;
   takes = omega arith;
@@ -996,7 +970,7 @@ r-run D = record {
 }
 
 pub r-const-untyped : {u v w z : Lexeme} {xs ys : List RowToken} {t : Trees} → Read (level true 0) xs (token Token.Semicolon z ∷ ys) t → Read declaration (token Token.Const u ∷ token Token.Identifier v ∷ token Token.Equals w ∷ xs) ys (branch Node.ConstDecl 0 (named v ⊕ t))
-unfolding readDeclaration begins heads on if follows calm stop operatorOf Chart.lookup Chart.within below
+unfolding readDeclaration begins heads on if follows calm stop operatorOf Parser.lookup Parser.within below
 r-const-untyped D = record {
   first = refl;
   takes = omega arith;
@@ -1005,7 +979,7 @@ r-const-untyped D = record {
 }
 
 pub r-const-typed : {u v w y z : Lexeme} {xs ys zs : List RowToken} {s t : Trees} → Read (level true 0) xs (token Token.Equals y ∷ ys) s → Read (level true 0) ys (token Token.Semicolon z ∷ zs) t → Read declaration (token Token.Const u ∷ token Token.Identifier v ∷ token Token.Colon w ∷ xs) zs (branch Node.ConstDecl Flag.ConstDecl-typed (named v ⊕ (s ⊕ t)))
-unfolding readDeclaration begins heads on if follows calm stop operatorOf Chart.lookup Chart.within below
+unfolding readDeclaration begins heads on if follows calm stop operatorOf Parser.lookup Parser.within below
 r-const-typed D E = record {
   first = refl;
   takes = omega arith;
@@ -1014,7 +988,7 @@ r-const-typed D E = record {
 }
 
 pub r-use-private : {v : Lexeme} {xs ys : List RowToken} {t : Trees} → Read (import false) xs ys t → Read declaration (token Token.Use v ∷ xs) ys t
-unfolding readDeclaration begins heads on if follows calm stop operatorOf Chart.lookup Chart.within below
+unfolding readDeclaration begins heads on if follows calm stop operatorOf Parser.lookup Parser.within below
 r-use-private D = record {
   first = refl;
   takes = omega arith;
@@ -1023,7 +997,7 @@ r-use-private D = record {
 }
 
 pub r-use-public : {u v : Lexeme} {xs ys : List RowToken} {t : Trees} → Read (import true) xs ys t → Read declaration (token Token.Pub u ∷ token Token.Use v ∷ xs) ys t
-unfolding readDeclaration begins heads on if follows calm stop operatorOf Chart.lookup Chart.within below
+unfolding readDeclaration begins heads on if follows calm stop operatorOf Parser.lookup Parser.within below
 r-use-public D = record {
   first = refl;
   takes = omega arith;

@@ -14,9 +14,10 @@ use Rattle.words.specs.UnaryOp
 use Rattle.chart.specs.Row.{Lexeme, RowToken, begins, token}
 use Rattle.chart.specs.Tree.{Trees, _⊕_, branch, listed, named, decoded, decodedHex, quiet, stringTree}
 use Rattle.chart.specs.Chart
-use Rattle.chart.specs.Chart.{Role, operatorOf, prefixLevel, binaryTree, Nonterminal, Derives, binaryOf, file, declarations, declaration, import, path, items, item, level, postfix, operand, strings, arguments, elements, types, fields, elseIfs, arms, arm, signature, parameters, parameter, parameterType, structBody, methods, block, statements, statement, binding, bindingName}
-use Rattle.chart.specs.Parser.{Outcome, Readers, push, prepend, readList, readElements, readFields, readOn, readStrings, readElseIfs, readArm, readArms, readParameterType, readParameter, readParameters, readSignature, readMethods, readStructBody, readRound, readStruct, readOperand, readPrefix, readLevel, readBindingName, readBinding, readExpression, readComptime, readStatement, readStatements, readBlock, readers, readPath, readItem, readItems, readImport, readDeclaration, readDeclarations, readFile, ok}
+use Rattle.chart.specs.Chart.{prefixLevel, binaryTree, Nonterminal, Derives, file, declarations, declaration, import, path, items, item, level, postfix, operand, strings, expressions, types, fields, elseIfs, arms, arm, signature, parameters, parameter, parameterType, structBody, methods, block, statements, statement, binding, bindingName}
+use Rattle.chart.specs.Parser.{Role, operatorOf, binaryOf, Outcome, Readers, push, prepend, readList, readElements, readFields, readOn, readStrings, readElseIfs, readArm, readArms, readParameterType, readParameter, readParameters, readSignature, readMethods, readStructBody, readRound, readStruct, readOperand, readPrefix, readLevel, readBindingName, readBinding, readExpression, readComptime, readStatement, readStatements, readBlock, readers, readPath, readItem, readItems, readImport, readDeclaration, readDeclarations, readFile, ok}
 use Rattle.chart.specs.Outcome.{not-nothing, not-fail, not-deep, if-elim, on-elim, bind-elim, try-elim}
+use Rattle.chart.specs.Levels.{binary}
 use Rattle.chart.specs.Laws.{below, postStart, stop, and-left, op-top, stop-mono, stop-intro, op-elim, ok-trees, ok-rest, ret, need, continues-not}
 
 pub record Sound (R : Readers) : Type 0 where
@@ -106,15 +107,15 @@ module _ (R : Readers) (S : Sound R) where
   sb : {xs ys : List RowToken} {t : Trees} → R .block xs ≡ ok t ys → Derives block xs ys t
   sb e = S .block _ _ _ e
 
-  s-arguments : (n : ℕ) (xs ys : List RowToken) (t : Trees) → readList Token.RightRound R n xs ≡ ok t ys → Derives arguments xs ys t
+  s-arguments : (n : ℕ) (xs ys : List RowToken) (t : Trees) → readList Token.RightRound R n xs ≡ ok t ys → Derives expressions xs ys t
   unfolding readList
   s-arguments zero xs ys t e = not-fail e
   s-arguments (suc n) xs ws us e = try-elim _ _ _ e
-      (λ t ys q e. on-elim (λ ys. Derives (level true 0) xs ys t → Derives arguments xs ws us) _ _ _ _ e
-      (λ v zs e D. bind-elim _ _ e (λ gs vs q e. ret e (Chart.arguments-more D (s-arguments n zs vs gs q))))
-      (λ _ e. need (λ ys. Derives (level true 0) xs ys t → Derives arguments xs ws us) _ _ _ e (λ v zs e D. ret e (Chart.arguments-last D)))
+      (λ t ys q e. on-elim (λ ys. Derives (level true 0) xs ys t → Derives expressions xs ws us) _ _ _ _ e
+      (λ v zs e D. bind-elim _ _ e (λ gs vs q e. ret e (Chart.expressions-more D (s-arguments n zs vs gs q))))
+      (λ _ e. need (λ ys. Derives (level true 0) xs ys t → Derives expressions xs ws us) _ _ _ e (λ v zs e D. ret e (Chart.expressions-last D)))
       (sx true q))
-      (λ _ e. need (λ xs. Derives arguments xs ws us) _ _ _ e (λ v zs e. ret e Chart.arguments-end))
+      (λ _ e. need (λ xs. Derives expressions xs ws us) _ _ _ e (λ v zs e. ret e Chart.expressions-end))
 
   s-types : (n : ℕ) (xs ys : List RowToken) (t : Trees) → readList Token.RightCurly R n xs ≡ ok t ys → Derives types xs ys t
   unfolding readList
@@ -126,14 +127,14 @@ module _ (R : Readers) (S : Sound R) where
       (sx true q))
       (λ _ e. need (λ xs. Derives types xs ws us) _ _ _ e (λ v zs e. ret e Chart.types-end))
 
-  s-elements : (n : ℕ) (xs ys : List RowToken) (t : Trees) → readElements R n xs ≡ ok t ys → Derives elements xs ys t
+  s-elements : (n : ℕ) (xs ys : List RowToken) (t : Trees) → readElements R n xs ≡ ok t ys → Derives expressions xs ys t
   unfolding readElements
   s-elements zero xs ys t e = not-fail e
-  s-elements (suc n) xs ws us e = on-elim (λ xs. Derives elements xs ws us) _ _ _ _ e
-      (λ v zs e. ret e Chart.elements-end)
-      (λ _ e. bind-elim _ _ e λ t ys q e. on-elim (λ ys. Derives (level true 0) xs ys t → Derives elements xs ws us) _ _ _ _ e
-      (λ v zs e D. bind-elim _ _ e (λ gs vs q e. ret e (Chart.elements-more D (s-elements n zs vs gs q))))
-      (λ _ e. need (λ ys. Derives (level true 0) xs ys t → Derives elements xs ws us) _ _ _ e (λ v zs e D. ret e (Chart.elements-last D)))
+  s-elements (suc n) xs ws us e = on-elim (λ xs. Derives expressions xs ws us) _ _ _ _ e
+      (λ v zs e. ret e Chart.expressions-end)
+      (λ _ e. bind-elim _ _ e λ t ys q e. on-elim (λ ys. Derives (level true 0) xs ys t → Derives expressions xs ws us) _ _ _ _ e
+      (λ v zs e D. bind-elim _ _ e (λ gs vs q e. ret e (Chart.expressions-more D (s-elements n zs vs gs q))))
+      (λ _ e. need (λ ys. Derives (level true 0) xs ys t → Derives expressions xs ws us) _ _ _ e (λ v zs e D. ret e (Chart.expressions-last D)))
       (sx true q))
 
   s-arm : (xs ys : List RowToken) (t : Trees) → readArm R xs ≡ ok t ys → Derives arm xs ys t
@@ -303,7 +304,7 @@ module _ (R : Readers) (S : Sound R) where
       λ nb e. op-elim (λ ys. begins Token.Dot ys ≡ false → begins Token.LeftRound ys ≡ false → (m && begins Token.LeftCurly ys) ≡ false → Acc m k xs ys t → Derives (level m k) xs rs us × (stop m k rs ≡ true)) _ _ _ _ e
       (λ o v j op ys q h e _ _ _ a. bind-elim _ _ e λ u zs qu e.
       let D = S .expr m (suc j) ys zs u (op-top o j op q) qu in
-      s-loop n m k xs zs rs (binaryTree op t u) us l (bound j h (let g : suc j ≤ prefixLevel = op-top o j op q in omega arith) (Chart.binary q (acc-level j op q h a) (D .0)) (D .1)) e)
+      s-loop n m k xs zs rs (binaryTree op t u) us l (bound j h (let g : suc j ≤ prefixLevel = op-top o j op q in omega arith) (binary q (acc-level j op q h a) (D .0)) (D .1)) e)
       (λ no e hd np nb a. (ret e (acc-end l a), subst (λ r. stop m k r ≡ true) (ok-rest e) (stop-intro m k ys hd np nb no))) hd np nb a) hd) a
 
   s-expr : (m : Bool) (k : ℕ) (xs ys : List RowToken) (t : Trees) → k ≤ prefixLevel → readLevel R m k xs ≡ ok t ys → Derives (level m k) xs ys t × (stop m k ys ≡ true)
@@ -361,7 +362,7 @@ module _ (R : Readers) (S : Sound R) where
       (λ ns e. on-elim (λ ys. Derives (level true 0) xs ys t → C) _ _ _ _ e
       (λ _ ws e D. g (ret-both (Listed Node.StatementsList) e (Chart.closing nc D, isList _ _)))
       (λ nr e D₀. if-elim _ _ _ e
-      (λ h e. f _ _ (Chart.mid-block nc (D .0) h (continues-not ys (D .1) ne ns) nr) e)
+      (λ h e. f _ _ (Chart.mid-block (D .0) h (continues-not ys (D .1) ne ns) nr) e)
       (λ _ e. not-fail e)))) (D .0)) nc
 
   s-statements : (n : ℕ) (xs ys : List RowToken) (t : Trees) → readStatements R n xs ≡ ok t ys → Derives statements xs ys t × Listed Node.StatementsList t

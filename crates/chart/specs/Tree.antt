@@ -74,7 +74,7 @@ decoded v = decodeString (span 0 0) (v .spelling)
 abbrev pub decodedHex : Lexeme → List Event
 decodedHex v = decodeHex (span 0 0) (v .spelling)
 
--- "Strings must decode without a report" (01, The wall chart).
+-- "strings must decode without a report" (01, The wall chart).
 unfoldable pub quiet : List Event → Bool
 quiet [] = true
 quiet (byte b ∷ es) = quiet es

@@ -24,7 +24,7 @@ use Rattle.definition.specs.Statements
 use Rattle.definition.specs.Declarations
 use Rattle.definition.specs.Parse
 use Rattle.definition.specs.Parse.{parsed}
-use Rattle.reader.specs.Read.{Read, Lent, reads, after, afterLexing}
+use Rattle.reader.specs.Read.{Read, reads, after, afterLexing}
 
 -- A text, and what reading it gives.
 record Case : Type 0 where

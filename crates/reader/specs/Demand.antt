@@ -24,7 +24,7 @@ abbrev pub Derived : List ℕ → Trees → Type 0
 Derived text t = Derives file (rowOf text) [] t
 
 -- What reading is to leave of a text: the words of tokens, nodes and values, and the counts of tokens, nodes, value words and reports.
--- "Report count 0 exactly when the wall chart derives the token row; the chart then derives one tree only, and it is the parser's" (demand 3).
+-- Demand 3: the report count is 0 exactly when the chart derives the token row; the chart then derives one tree only, and it is the parser's.
 pub record Agreed (text tokens nodes values : List ℕ) (tokenCount nodeCount valueCount reportCount : ℕ) : Type 0 where
   pub exactly : (reportCount ≡ 0) ↔ ((t : Trees) × Derived text t)
   pub one : (t u : Trees) → Derived text t → Derived text u → t ≡ u

@@ -323,16 +323,6 @@ abbrev pub given : List ℕ → ℕ → ℕ → List ℕ
 given text lent n = take n (lexedWords text lent)
 
 module _ (text : List ℕ) (lent n : ℕ) (e : lexed text lent ≡ done (n ∷ [])) where
-  -- Eof is the last of them, and no other is.
-  pub given-some : 0 < length (given text lent n)
-  given-some = laid-some (lexed-laid text lent n e)
-
-  pub given-inner : (i : ℕ) → suc i < length (given text lent n) → eqb (tokenKind (wordAt (given text lent n) i)) Token.Eof ≡ false
-  given-inner = laid-inner (lexed-laid text lent n e)
-
-  pub given-last : (i : ℕ) → suc i ≡ length (given text lent n) → tokenKind (wordAt (given text lent n) i) ≡ Token.Eof
-  given-last = laid-last-kind (lexed-laid text lent n e)
-
   -- Offsets of values fit into payloads.
   pub given-cost : cost (row text (given text lent n)) < 2 ^ 26
   given-cost = omega (arith, row-cost text (given text lent n) (lexed-laid text lent n e), lexed-length text lent n e, tokens-few text lent n e, text-short text lent n e)

@@ -3,7 +3,7 @@
 use mathlib.Core.Bool.{Bool, true, false, cond, _&&_, _||_}
 use mathlib.Core.Option.{Option}
 use mathlib.Core.Option as Option
-use mathlib.Core.List.{List, [], _∷_, _++_}
+use mathlib.Core.List.{List, [], _∷_}
 use Prim.Native.Nat.{ℕ, zero, suc, _+_, _*_, _/_, _%_}
 use lib.Dec.{eqb, ltb, leb}
 use lib.ListN.{length, getD, take, drop}
@@ -13,9 +13,9 @@ use Rattle.words.specs.Value as Tag
 use Rattle.words.specs.Words.{nodeWidth, nodeOf, valueTag, valueCount}
 use Rattle.literals.specs.Spelling.{spelling}
 use Rattle.literals.specs.Laws.{made}
-use Rattle.chart.specs.Tree.{Value, flags, name, number, bytes, Tree, Trees, node, none, _▸_}
+use Rattle.chart.specs.Tree.{Value, flags, name, number, bytes, Trees, node, none, _▸_}
 
--- "Bytes four to a word, first lowest" (01, Words that are lent).
+-- "bytes four to a word, first lowest" (01, Words that are lent).
 unfoldable pub wordBytes : List ℕ → List ℕ
 wordBytes [] = []
 wordBytes (w ∷ ws) = w % 256 ∷ w / 256 % 256 ∷ w / 65536 % 256 ∷ w / 16777216 % 256 ∷ wordBytes ws

@@ -1,10 +1,10 @@
 -- What nodes say of values: it stays so where values are added.
-use mathlib.Core.Path.{_≡_, refl, sym, _∙_, ap}
+use mathlib.Core.Path.{_≡_, refl, ap}
 use mathlib.Core.Bool.{Bool, true, false, cond, _&&_}
 use mathlib.Core.Option.{Option}
 use mathlib.Core.Option as Option
 use mathlib.Core.List.{List, [], _∷_, _++_}
-use Prim.Native.Nat.{ℕ, zero, suc, _+_, _*_, _/_, _%_, _^_, _≤_, _<_}
+use Prim.Native.Nat.{ℕ, suc, _+_, _*_, _/_, _%_, _^_, _≤_, _<_}
 use native.Mathlib.Omega.{arith}
 use borrow.Author.Tests.{eqb-true, leb-true, le-leb, ltb-true, ltb-false}
 use lib.Dec.{eqb, ltb, leb}
@@ -17,7 +17,7 @@ use Rattle.words.specs.Laws.{high-pack, low-pack}
 use Rattle.literals.specs.Spelling.{spelling}
 use Rattle.literals.specs.Numbers.{limbs, numberValue}
 use Rattle.literals.specs.Strings.{fours, stringValue}
-use Rattle.literals.specs.Laws.{made, limbs-make}
+use Rattle.literals.specs.Laws.{limbs-make}
 use Rattle.chart.specs.Tree.{Value, flags, name, number, bytes}
 use Rattle.tree.specs.Stored.{wordBytes, wordsFor, where-so, isName, valueAt, said}
 
