@@ -1,12 +1,12 @@
 -- Laws of the definitions of this crate.
-use mathlib.Core.Path.{_≡_, refl, ap, sym, _∙_}
+use mathlib.Core.Path.{_≡_, refl, sym}
 use mathlib.Core.Bool.{Bool, true, false}
 use mathlib.Core.List.{List, [], _∷_}
 use Prim.Native.Nat.{ℕ, zero, suc, _+_, _*_, _/_, _%_, _≤_, _<_}
 use native.Mathlib.Omega.{arith}
 use borrow.Author.Tests.{eqb-true, eqb-false}
 use lib.Dec.{eqb}
-use Rattle.literals.specs.Numbers.{limbBase, limbsWithin, limbs}
+use Rattle.literals.specs.Numbers.{limbBase, limbsWithin}
 
 -- The number that limbs make, least first.
 abbrev pub made : List ℕ → ℕ
@@ -33,6 +33,7 @@ proper-cons : (l : ℕ) (ls : List ℕ) → l < limbBase → (made ls ≡ 0 → 
 proper-cons l [] h z p = (h, z refl)
 proper-cons l (k ∷ ls) h z p = (h, p)
 
+-- "Limbs follow least first with no top zero" (01, Words that are lent), of the definition.
 pub limbs-proper : (bound n : ℕ) → n ≤ bound → Proper (limbsWithin bound n)
 unfolding limbsWithin
 limbs-proper zero n h = tt

@@ -33,6 +33,6 @@ limbsWithin (suc bound) n = elim (eqb n 0) [ true ↦ [] | false ↦ n % limbBas
 abbrev pub limbs : ℕ → List ℕ
 limbs n = limbsWithin n n
 
--- "Value: top 2 bits 1 for a number; low 30 the limb count. Limbs follow."
+-- "Value: top 2 bits 1 for a number, ..; low 30 the limb .. count. Limbs follow" (01, Words that are lent).
 unfoldable pub numberValue : ℕ → List ℕ
 numberValue n = valueHead Value.Number (length (limbs n)) ∷ limbs n

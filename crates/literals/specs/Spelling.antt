@@ -1,7 +1,7 @@
 -- Where a token stands in the text, how it is spelled, and which token was the first to be spelled so.
 use mathlib.Core.Bool.{Bool, true, false, cond, _&&_}
 use mathlib.Core.List.{List, [], _∷_}
-use Prim.Native.Nat.{ℕ, zero, suc, _+_, pred}
+use Prim.Native.Nat.{ℕ, zero, suc, _+_}
 use lib.Dec.{eqb, leb}
 use lib.ListN.{length, getD}
 use lib.Seq.{slice}
@@ -29,7 +29,7 @@ tokenSpan tokens i = span (tokenStart tokens i) (tokenEnd (wordAt tokens i))
 unfoldable pub covered : List ℕ → Span → List ℕ
 covered text p = cond (leb (p .start) (p .end) && leb (p .end) (length text)) (slice (p .start) (p .end) text) []
 
--- "A token's spelling is the part of the lent text that it covers; a token number past the words gives the empty part" (01, lexer.rs).
+-- "A token's spelling is the part of the lent text that it covers ..; a token number past the words, .. give the empty part" (01, lexer.rs).
 abbrev pub spelling : List ℕ → List ℕ → ℕ → List ℕ
 spelling text tokens i = covered text (tokenSpan tokens i)
 

@@ -1,6 +1,6 @@
 -- What string tokens decode to: `decode_string_token` and `decode_hex_token` of strings.rs.
 use mathlib.Core.Option.{Option, none, some}
-use mathlib.Core.Bool.{Bool, true, false, cond, not, _&&_, _||_}
+use mathlib.Core.Bool.{Bool, true, false, cond, _||_}
 use mathlib.Core.List.{List, [], _∷_, _++_}
 use Prim.Native.Nat.{ℕ, zero, suc, _+_, _-_, _*_}
 use lib.Dec.{eqb, ltb}
@@ -158,6 +158,6 @@ fours (a ∷ b ∷ []) = (a + 256 * b) ∷ []
 fours (a ∷ b ∷ c ∷ []) = (a + 256 * (b + 256 * c)) ∷ []
 fours (a ∷ b ∷ c ∷ d ∷ s) = (a + 256 * (b + 256 * (c + 256 * d))) ∷ fours s
 
--- "Value: top 2 bits 2 for a string; low 30 the byte count."
+-- "Value: top 2 bits .. 2 for a string; low 30 the .. byte count" (01, Words that are lent).
 unfoldable pub stringValue : List ℕ → List ℕ
 stringValue s = valueHead Value.String (length s) ∷ fours s

@@ -1,7 +1,7 @@
 -- What a shift to the left by k is, of 32 bits: what doesn't fit is cut off.
 -- Assumes nothing.
 use mathlib.Core.Path.{_≡_, ap, ap₂, _∙_}
-use Prim.Native.Nat.{ℕ, _+_, _-_, _*_, _/_, _%_, _^_, _<_, _≤_}
+use Prim.Native.Nat.{ℕ, _+_, _-_, _*_, _%_, _^_, _<_}
 use native.Mathlib.Nat.{mul-div-cancel, mul-mod-left, add-zero, one-mul}
 use native.Mathlib.Omega.{arith}
 use lib.Pow.{pow-pos, shl-exact}

@@ -4,6 +4,7 @@ pub mod ErrorToken
 pub mod Flag
 pub mod Laws
 pub mod Node
+pub mod Order
 pub mod Refusal
 pub mod Report
 pub mod Token

@@ -1,6 +1,6 @@
 -- The kinds of a token: "declaration order in `Token` from 0, Eof 81" (01, Words that are lent); `Token` of lexer.rs.
 use Prim.Native.Nat.{ℕ}
-use mathlib.Core.Bool.{Bool, true, false, cond, _||_}
+use mathlib.Core.Bool.{Bool, cond, _||_}
 use lib.Dec.{eqb}
 use Rattle.words.specs.ErrorToken
 use Rattle.words.specs.declared.token.LexError.{LexError}

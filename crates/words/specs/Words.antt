@@ -15,7 +15,7 @@ high k w = w / 2 ^ k
 unfoldable pub low : ℕ → ℕ → ℕ
 low k w = w % 2 ^ k
 
--- Token: "top 7 bits the kind, low 25 the source end".
+-- Token: "top 7 bits the kind .., low 25 the source end".
 abbrev pub tokenWord : ℕ → ℕ → ℕ
 tokenWord kind end = pack 25 kind end
 
@@ -25,7 +25,7 @@ tokenKind w = high 25 w
 abbrev pub tokenEnd : ℕ → ℕ
 tokenEnd w = low 25 w
 
--- Node, first word: "top 6 bits the kind with a 26-bit payload".
+-- Node, first word: "top 6 bits the kind .. with a 26-bit payload".
 abbrev pub nodeHead : ℕ → ℕ → ℕ
 nodeHead kind payload = pack 26 kind payload
 
@@ -35,7 +35,7 @@ nodeKind w = high 26 w
 abbrev pub nodePayload : ℕ → ℕ
 nodePayload w = low 26 w
 
--- "Node, five words: top 6 bits the kind with a 26-bit payload; first token; end token; next sibling; first child."
+-- "Node, five words: top 6 bits the kind .. with a 26-bit payload; first token; end token; next sibling; first child."
 abbrev pub nodeWidth : ℕ
 nodeWidth = 5
 
