@@ -15,6 +15,10 @@ import sys
 import tempfile
 import time
 
+# From so many `.before` on, a place gets a name; a line of a term is cut where it is longer than so many characters.
+FAR = 5
+WIDE = 150
+
 KEPT = os.path.join(tempfile.gettempdir(), "prove" + os.getcwd().replace("/", "-"))
 
 
@@ -84,20 +88,45 @@ def at(things, thing):
     return "c" + " .before" * steps + " ." + thing
 
 
-def shared(term):
-    """A term that names several places, with each bound once, from the nearest on: a long one is checked sooner."""
-    place = r"\bc((?: \.before)+) \.(?!before)([^\s().,]+)"
-    named = {len(found.group(1).split()): "at-" + found.group(2).strip("«»") for found in re.finditer(place, term)}
-    if len(named) < 2:
+def shared(term, things):
+    """A term that reaches far back or is long, with each of its places bound once, from the nearest on: it is read and checked sooner.
+    Where two places are very far apart, the calls between are bound too."""
+    place = r"\bc((?: \.before)+)(?! \.before)"
+    found = {len(steps.split()) for steps in re.findall(place, term)}
+    if not found or (max(found) < FAR and all(len(line) < WIDE for line in term.split("\n"))):
         return term
+    known = readers()
+    calls = [k for k in range(max(found)) if re.sub(r"\d+$", "", things[k]).strip("«»") in known]
+    for far in sorted(found):
+        nearer = max([k for k in found if k < far], default=0)
+        found |= {k for k in calls if nearer < k < far and far - nearer > 3 * FAR}
+    named = {far: "at-" + things[far].strip("«»") if far < len(things) else "at-start" for far in found}
     bound, nearest, steps = [], "c", 0
     for far in sorted(named):
         bound.append(f"let {named[far]} = {nearest}{' .before' * (far - steps)} in")
         nearest, steps = named[far], far
-    term = re.sub(place, lambda found: f"{named[len(found.group(1).split())]} .{found.group(2)}", term)
+    term = re.sub(place, lambda one: named[len(one.group(1).split())], term)
+    term = re.sub(r"\((at-[^\s()]+)\)", r"\1", term)
     if term.startswith("(\n"):
         bound[-1], term = bound[-1] + " (", term[2:]
-    return "".join("\n    " + line for line in bound + term.split("\n"))
+    lines = bound + [part for line in term.split("\n") for part in wrapped(line)]
+    return "".join("\n    " + line for line in lines)
+
+
+def wrapped(line):
+    """A long line in several, cut before a bracket or behind a comma, as far out as one fits."""
+    if len(line) <= WIDE:
+        return [line]
+    cuts, depth = {}, 0
+    for k, char in enumerate(line[:WIDE]):
+        depth += (char == "(") - (char == ")")
+        if line[k] == " " and k > WIDE // 3 and (line[k + 1] in "(∙" or line[k - 1] == ","):
+            cuts[depth] = k
+    if not cuts:
+        return [line]
+    cut = cuts[min(cuts)]
+    lead = " " * (len(line) - len(line.lstrip()))
+    return [line[:cut]] + wrapped(lead + "  " + line[cut:].lstrip())
 
 
 def readers():
@@ -109,12 +138,12 @@ def readers():
     return names
 
 
-def kept_lengths(things, slice_number):
-    """The chain of calls that keep the length of nodes, values or reports, back to a loop or to the start."""
+def kept_lengths(things, slice_number, answers):
+    """The chain of calls that keep the length of nodes, values or reports, back to a loop that keeps it or to the start."""
     known = readers()
     chain = []
     for thing in things:
-        if re.fullmatch(r"loop\d*", thing):
+        if "length nodes" in answers.get("Inv-" + thing, ["", ""])[1]:
             chain.append(f"{at(things, thing)} .inv .{slice_number + 1}")
             break
         if re.sub(r"\d+$", "", thing).strip("«»") in known:
@@ -122,10 +151,10 @@ def kept_lengths(things, slice_number):
     return " ∙ ".join(chain)
 
 
-def same_length(need, things):
+def same_length(need, things, answers):
     """The needs come in threes, in the order of nodes, values and reports."""
     number = int(need[len("same-length-"):] or 1) if need != "same-length" else 1
-    return kept_lengths(things, (number - 1) % 3)
+    return kept_lengths(things, (number - 1) % 3, answers)
 
 
 def parse(block):
@@ -150,8 +179,9 @@ def answer(need, answers, things):
     """The unfolding line and the term of a need."""
     unfolding, term = answers.get(need, ["", "search needs"])
     if need.startswith("same-length") and need not in answers and things:
-        term = same_length(need, things) or term
-    term = re.sub(r"@lengths\b", lambda found: ", ".join(kept_lengths(things, k) for k in range(3)), term)
+        term = same_length(need, things, answers) or term
+    three = lambda found: f",{found.group(1) or ' '}".join(kept_lengths(things, k, answers) for k in range(3))
+    term = re.sub(r"(\n *)?@lengths\b", lambda found: (found.group(1) or "") + three(found), term)
     term = re.sub(r"@@([«»A-Za-z0-9-]+)", lambda found: "(" + at(things, found.group(1)).rpartition(" .")[0] + ")", term)
     term = re.sub(r"@([«»A-Za-z0-9-]+)", lambda found: at(things, found.group(1)), term)
     return unfolding, term
@@ -189,8 +219,9 @@ def proof(stub, comments, uses, answers, needs):
             name = named.group(1)
             clause = next(k for k, line in enumerate(lines) if line.startswith(name + " ") and k > 0)
             left = re.split(r" =(?: |$)", " ".join(line.strip() for line in lines[clause:]))[0]
-            unfolding, term = answer(name, answers, needs.get(name, []))
-            lines = [declaration("\n".join(lines[:clause]), unfolding, left, term)]
+            places = needs.get(name, [])
+            unfolding, term = answer(name, answers, places)
+            lines = [declaration("\n".join(lines[:clause]), unfolding, left, shared(term, places))]
         if lines[0]:
             declarations.append("\n".join(lines))
     text = "\n\n".join(declarations)
@@ -314,7 +345,7 @@ class Cycle:
         library = self.library if crate == self.crate else f"Rattle.{crate}.proofs."
         return f"use {library}{way.replace('::', '.')}.Reads as {self.alias(callee)}-reads"
 
-    def default(self, member, need, things):
+    def default(self, member, need, things, answers):
         """The answer where none is given."""
         callee = re.sub(r"-requires(-\d+)?$", "", need)
         inside = {dashed(name.split("::")[-1]) for name, _ in self.within_cycle(member)}
@@ -322,7 +353,7 @@ class Cycle:
             deeper = any(below == 1 for _, below in self.within_cycle(member)) and "if1" in things
             facts = ["arith", at(things, "pre") + " .0"] + ([at(things, "if1") + " .left"] if deeper else [])
             return f"(omega ({', '.join(facts)}), tt)"
-        return answer(need, {}, things)[1]
+        return answer(need, answers, things)[1]
 
     def loops(self, lts, member, answers):
         """The declarations of each loop's invariant and measure."""
@@ -356,10 +387,10 @@ class Cycle:
             if need in answers or not re.match(r"same-length|enum-|.*-requires(-\d+)?$", need):
                 unfolding, term = answer(need, answers, places[need])
                 head = f"{need} : lts.Need-{need} {spec}"
-                answered.append(declaration(head, unfolding, f"{need} {bound}", shared(term)))
+                answered.append(declaration(head, unfolding, f"{need} {bound}", shared(term, places[need])))
                 given.append(need)
             else:
-                given.append(f"(λ {bound}. {self.default(member, need, places[need])})")
+                given.append(f"(λ {bound}. {self.default(member, need, places[need], answers)})")
         closed = f"pub closed : {{M : Type 1}} → lts.Closed {handed} M\nclosed =\n    "
         answered.append(closed + "\n    ".join([f"lts.spec {spec}"] + given))
         claims = f"abbrev cs : ℕ → lts.Claims\ncs t = ({', '.join(self.claims(callee) for callee in callees)})"

@@ -1,7 +1,7 @@
 -- Parts of the definition's programs that are functions of their own in the code, and the answers as the definition has them.
 use mathlib.Core.Bool.{Bool, true, false, not, _||_}
 use mathlib.Core.Option.{Option, none, some}
-use mathlib.Core.List.{List, [], _∷_}
+use mathlib.Core.List.{[], _∷_}
 use Prim.Native.Nat.{ℕ}
 use lib.Dec.{eqb}
 use Rattle.words.specs.Token
@@ -72,12 +72,6 @@ onlyEat tried token = if tried then eat token else give false
 
 abbrev pub onlyCheck : Bool → ℕ → Prog Bool
 onlyCheck tried token = if tried then check token else give false
-
--- In the loop of `parse_delimited`, where no element begins.
-abbrev pub recover : Bool → Act
-recover emitted = do
-  when (not emitted) emitUnexpected
-  pass
 
 abbrev pub pastSemicolon : Act
 pastSemicolon = do

@@ -16,7 +16,7 @@ use Rattle.definition.specs.Statements.{StmtResult as Result}
 use Rattle.stream.specs.Delimited.{elements}
 use Rattle.answers.specs.Same.{Ways, over, way, tokensOf, taken}
 use Rattle.answers.specs.Parts.{addElement, closeOperand, closeIf, closeBlock, pushClose, endStmt}
-use Rattle.answers.specs.Steps.{Going, Right, Prefix, Goes-on, Bracket, Parameter, Elsewise, Afterwards, eatFirst, prefixed, closeUnary, infixed, member, call, literalOf, nowhere, postfixKind, simple, empty, opened, parenStart, goes, parenComma, openList, endList, endNode, endBody, openMethod, missing, anyTyped, wants, paramHead, openBody, openNamed, openCall, noElse, elseIf, elseLast, elseKind, openArms, openLet, letEquals, endLet, openAssign, assigns, whole, openBlock}
+use Rattle.answers.specs.Steps.{Going, Right, Prefix, Goes-on, Bracket, Parameter, Elsewise, Afterwards, eatFirst, prefixed, closeUnary, infixed, member, call, literalOf, nowhere, postfixKind, simple, empty, opened, parenStart, parenComma, openList, endList, endNode, endBody, openMethod, missing, anyTyped, wants, paramHead, openBody, openNamed, openCall, noElse, elseIf, elseLast, elseKind, openArms, openLet, letEquals, endLet, openAssign, assigns, whole, openBlock}
 
 -- An expression that no `{` goes on from, and a block.
 abbrev pub guarded : Unfinished → Prog Unfinished

@@ -1,9 +1,9 @@
 -- The steps of a reader that lie between two calls of readers, as programs; and the answers as the definition has them.
-use mathlib.Core.Bool.{Bool, true, false, not, cond, _&&_}
+use mathlib.Core.Bool.{Bool, true, false, _&&_}
 use mathlib.Core.Option.{Option, none, some}
 use mathlib.Core.List.{List, [], _∷_}
 use Prim.Native.Nat.{ℕ, suc}
-use lib.Dec.{eqb, ltb}
+use lib.Dec.{ltb}
 use Rattle.words.specs.Token
 use Rattle.words.specs.Node
 use Rattle.words.specs.Flag
@@ -12,12 +12,9 @@ use Rattle.definition.specs.declared.Unfinished.{Unfinished}
 use Rattle.definition.specs.Prog.{Turn, again, stop, Prog, Act, give, _>>=_, _>>_, if_then_else_, when, position, kindOf}
 use Rattle.definition.specs.Tokens.{check, eat, ifEat_then_else_, ifCheck_then_else_, emitUnexpected, expect}
 use Rattle.definition.specs.Nodes.{allocNodeFrom, skipTriviaStart, allocNode, closeNode, updateKind, pushChild, flag, tryParseIdent, expectIdent}
-use Rattle.definition.specs.Expressions.{Binary, allowsStructLiteral, memberPriority, fnCallPriority, structLiteralPriority, checkBinaryOp, eatUnary, pushOption, memberExpr, anyType, parameterName, Members, members, _orElse_}
+use Rattle.definition.specs.Expressions.{allowsStructLiteral, memberPriority, fnCallPriority, structLiteralPriority, checkBinaryOp, eatUnary, pushOption, memberExpr, anyType, parameterName, Members, members, _orElse_}
 use Rattle.definition.specs.Statements.{requiresSemi, letFlags, statement, endExprOrStmt, endExpr, nothing, Body, body, endExprTurn}
 use Rattle.definition.specs.Statements.{StmtResult as Result}
-use Rattle.reading.specs.declared.Maybe.{Maybe}
-use Rattle.reading.specs.declared.Maybe.the-variants.{Some, None}
-use Rattle.cst.specs.Cst.{maybe}
 use Rattle.answers.specs.Parts.{element, stmtResult, literal, named, onlyEat, onlyCheck, closeOperand, openBinary, closeInto, separate}
 use Rattle.answers.specs.declared.Longer.{Longer}
 use Rattle.answers.specs.declared.Prefixed.{Prefixed}

@@ -3,7 +3,6 @@ ghost use Rattle.definition.specs.Prog.{memory, again};
 ghost use Rattle.definition.specs.Expressions.{fallbackArm, anyType, parameterName, members, noMemberTurn};
 ghost use Rattle.definition.specs.Statements.{endExprTurn};
 ghost use Rattle.reading.specs.Does.{Does};
-ghost use Rattle.cst.specs.Cst.{maybe};
 ghost use Rattle.answers.specs.Parts.{element, onlyEat, onlyCheck, emitHere, emitBefore, noteField, separate, oneOf, comptimeError, pastSemicolon, endedTurn, stmtResult, errorFrom, comptimeParameter, plainParameter, missingSemicolon};
 use answers::Element;
 use answers::Ended;
@@ -40,7 +39,7 @@ use words::node;
 use words::token;
 
 // A report on the cursor's token.
-pub fn emit_here(
+fn emit_here(
     d: u32,
     s: Reading,
     text: &[u8],
@@ -73,7 +72,7 @@ pub fn emit_here(
 }
 
 // A report on the token before the cursor.
-pub fn emit_before(
+fn emit_before(
     d: u32,
     s: Reading,
     text: &[u8],

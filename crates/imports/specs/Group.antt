@@ -8,8 +8,8 @@ use Rattle.words.specs.Token
 use Rattle.words.specs.Report
 use Rattle.literals.specs.declared.Span.{Span}
 use Rattle.definition.specs.declared.Unfinished.{Unfinished}
-use Rattle.definition.specs.Prog.{Prog, Act, give, _>>=_, _>>_, loop, if_then_else_, when, before, emit, Memory}
-use Rattle.definition.specs.Tokens.{check, eat, ifEat_then_else_}
+use Rattle.definition.specs.Prog.{Prog, Act, give, _>>=_, _>>_, loop, when, before, emit, Memory}
+use Rattle.definition.specs.Tokens.{check, ifEat_then_else_}
 use Rattle.definition.specs.Nodes.{pushChild, expectIdent}
 use Rattle.definition.specs.Declarations.{Group, pathTurn, parseImportGroupItem, groupItem}
 use Rattle.reading.specs.declared.Reading.{Reading}

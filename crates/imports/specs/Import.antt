@@ -6,8 +6,8 @@ use Rattle.words.specs.Token
 use Rattle.words.specs.Node
 use Rattle.words.specs.Flag
 use Rattle.definition.specs.declared.Unfinished.{Unfinished}
-use Rattle.definition.specs.Prog.{Turn, again, stop, Prog, give, _>>=_, _>>_, loop, if_then_else_}
-use Rattle.definition.specs.Tokens.{check, eat, ifEat_then_else_, ifCheck_then_else_, expect}
+use Rattle.definition.specs.Prog.{Turn, again, stop, Prog, give, _>>=_, _>>_, loop}
+use Rattle.definition.specs.Tokens.{ifEat_then_else_, ifCheck_then_else_, expect}
 use Rattle.definition.specs.Nodes.{allocNodeFrom, closeNode, pushChild, flag, expectIdent}
 use Rattle.definition.specs.Declarations.{ImportSoFar, globImport, groupImport, importTurn, importAs}
 

@@ -1,6 +1,4 @@
 // The group of an import: `parse_import_group` and `parse_import_group_item` of parser/mod.rs.
-ghost use mathlib.Core.Path.{_≡_};
-ghost use Prim.Native.Nat.{ℕ};
 ghost use Rattle.words.specs.Token;
 ghost use Rattle.literals.specs.Spelling.{span};
 ghost use Rattle.definition.specs.Prog.{Loop, memory};
@@ -15,7 +13,6 @@ use reading::Got;
 use reading::Opened;
 use reading::Reading;
 use reading::report;
-use recovery::Going;
 use recovery::list_ends;
 use words::node;
 use words::token;
@@ -36,6 +33,12 @@ struct Grown {
 struct Items {
     pub node: Unfinished,
     pub count: usize,
+    pub at: Reading,
+}
+
+// Whether a loop goes on.
+struct Going {
+    pub on: bool,
     pub at: Reading,
 }
 
@@ -492,7 +495,7 @@ fn tell_count(
     s
 }
 
-pub fn parse_import_group(
+pub(crate) fn parse_import_group(
     d: u32,
     s: Reading,
     text: &[u8],

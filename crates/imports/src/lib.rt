@@ -1,5 +1,4 @@
 // Imports: `parse_import_decl` of parser/mod.rs.
-ghost use mathlib.Core.Path.{_≡_};
 ghost use mathlib.Core.Option.{none};
 ghost use Rattle.definition.specs.Prog.{Loop, memory};
 ghost use Rattle.definition.specs.Declarations.{globImport, groupImport, importTurn, importAs, parseImportDecl};

@@ -1,17 +1,17 @@
 -- The table while it is filled: what was written of each name so far is right.
-use mathlib.Core.Path.{_≡_, refl, sym, _∙_, ap}
+use mathlib.Core.Path.{_≡_, refl, sym, _∙_}
 use mathlib.Core.Bool.{Bool, true, false, cond, _&&_, true≢false}
 use mathlib.Core.List.{List}
 use Prim.Native.Nat.{ℕ, _+_, _*_, _/_, _%_, _≤_, _<_}
 use native.Mathlib.Omega.{arith}
-use borrow.Author.Tests.{eqb-true, eqb-false, ltb-true, ltb-false}
-use lib.Dec.{eqb, ltb}
+use borrow.Author.Tests.{eqb-true, eqb-false, eq-eqb, ne-eqb, le-leb, lt-leb, ltb-true, ltb-false}
+use lib.Dec.{eqb, ltb, leb}
 use lib.ListN.{length, getD, set, take, length-set}
 use lib.Seq.{getD-set-same, getD-set-other, take-set-le}
 use Rattle.literals.specs.Spelling.{spelling, firstAlike}
 use Rattle.reading.specs.Source.{tableStart, tableEntries, entry, isName, isTold, firstOf, Right}
 use Rattle.spellings.specs.Names.{kindAt, kind-past}
-use Rattle.interner.specs.Same.{Inside, spelling-same, firsts-same}
+use Rattle.interner.specs.Same.{Inside, allInside, spelling-same, firsts-same}
 use Rattle.interner.specs.Alike.{both, firstName}
 use Rattle.interner.specs.Chain.{nameAt}
 
@@ -24,6 +24,25 @@ pub record Annotates (source text tokens : List ℕ) : Type 0 where
   pub spells : (i : ℕ) → spelling source tokens i ≡ spelling text tokens i
   pub firsts : (kind i : ℕ) → firstAlike source tokens kind i ≡ firstAlike text tokens kind i
   pub right : Right source tokens
+
+-- Whether a source of so many bytes can be made of a text and its tokens.
+unfoldable pub annotatable : List ℕ → List ℕ → ℕ → Bool
+annotatable text tokens size = eqb size sourceLength && (leb (length text) tableStart && allInside tokens (length text))
+
+-- By the tests of the three, in turn.
+module _ (text tokens : List ℕ) (size : ℕ) where
+  pub other-size : (size ≡ sourceLength → ⊥) → false ≡ annotatable text tokens size
+  unfolding annotatable
+  other-size h = rw (ne-eqb size sourceLength h)
+
+  module _ (h : size ≡ sourceLength) where
+    pub too-long : tableStart < length text → false ≡ annotatable text tokens size
+    unfolding annotatable
+    too-long l = rw (eq-eqb size sourceLength h, lt-leb (length text) tableStart l)
+
+    pub by-ends : length text ≤ tableStart → (b : Bool) → b ≡ allInside tokens (length text) → b ≡ annotatable text tokens size
+    unfolding annotatable
+    by-ends l b e = rw (eq-eqb size sourceLength h, le-leb (length text) tableStart l) e
 
 unfoldable pub written : List ℕ → ℕ → ℕ → List ℕ
 written source i first = set (set source (tableStart + 2 * i) (first % 256)) (tableStart + 2 * i + 1) (first / 256)
@@ -64,9 +83,6 @@ pub record Table (text tokens source : List ℕ) (n : ℕ) : Type 0 where
   pub right : (j : ℕ) → j < n → nameAt tokens j ≡ true → entry source j ≡ firstName text tokens j
 
 module _ (text tokens source : List ℕ) where
-  pub table-none : length source ≡ sourceLength → length text ≤ tableStart → take (length text) source ≡ text → Table text tokens source 0
-  table-none l f b = record { long = l; fits = f; begins = b; right = λ j h. absurd (omega arith) }
-
   -- A token that is no name needs nothing in the table.
   pub table-skip : (n : ℕ) → nameAt tokens n ≡ false → Table text tokens source n → Table text tokens source (n + 1)
   table-skip n f t = record { long = t .long; fits = t .fits; begins = t .begins; right = right }

@@ -1,12 +1,12 @@
 // A source is a copy of the text with a table of its names behind it: the parser asks of each name which token was the
 // first to be spelled so, and a table made in one pass spares it a look at all tokens for each.
 ghost use mathlib.Core.Path.{_≡_};
-ghost use mathlib.Core.Bool.{true};
+ghost use mathlib.Core.Bool.{true, false};
 ghost use Prim.Native.Nat.{_≤_};
 ghost use lib.ListN.{length, take};
 ghost use Rattle.reading.specs.Source.{isTold, firstOf};
-ghost use Rattle.interner.specs.Same.{Inside};
-ghost use Rattle.interner.specs.Table.{Annotates};
+ghost use Rattle.interner.specs.Same.{allInside};
+ghost use Rattle.interner.specs.Table.{Annotates, annotatable};
 
 mod chains;
 mod table;
@@ -43,7 +43,7 @@ pub fn first_of(source: &[u8], tokens: &[u32], kind: u32, i: u32) -> usize
 
 // Whether all tokens end at `n` or before it.
 fn ends_inside(tokens: &[u32], n: usize) -> bool
-    ensures { λ r. ⌜ (r ≡ true → Inside (now (tokens .entry)) n) ⌝ }
+    ensures { λ r. ⌜ r ≡ allInside (now (tokens .entry)) n ⌝ }
 {
     let mut i = 0;
     while i < tokens.len() {
@@ -68,10 +68,10 @@ fn copy(text: &[u8], source: &mut [u8])
     }
 }
 
-// The source of a text and its tokens: the text, and the table of its names. Where it answers false there is none, since
-// the source has another length than a source has, the text is longer than any, or a token ends past it.
+// The source of a text and its tokens: the text, and the table of its names. It answers false, and leaves what it was lent, where the
+// source has another length than a source has, the text is longer than any, or a token ends past it.
 pub fn annotate(text: &[u8], tokens: &[u32], source: &mut [u8]) -> bool
-    ensures { λ r. ⌜ (r ≡ true → Annotates (now (source .exit)) (now (text .entry)) (now (tokens .entry))) ⌝ }
+    ensures { λ r. ⌜ (r ≡ annotatable (now (text .entry)) (now (tokens .entry)) (length (now (source .entry)))) × (r ≡ true → Annotates (now (source .exit)) (now (text .entry)) (now (tokens .entry))) × (r ≡ false → now (source .exit) ≡ now (source .entry)) ⌝ }
 {
     if source.len() != SOURCE_BYTES {
         return false;

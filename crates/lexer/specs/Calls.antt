@@ -18,7 +18,7 @@ use Rattle.utf8.specs.declared.Way.{Way}
 use Rattle.utf8.specs.declared.Checked.{Checked}
 use Rattle.utf8.specs.declared.Checked.the-variants.{Good, Bad}
 use Rattle.scan.specs.Lexer.{tokensOf, word}
-use Rattle.lexer.specs.Lex.{longestText, notUtf8, lexed, lexedWords, startOf, spellingOf}
+use Rattle.lexer.specs.Lex.{longestText, notUtf8, lexed, lexedWords, startOf, covers, spellingOf, spellingStart, Begins}
 use Rattle.lexer.specs.Walk.{cleared, tokens-count}
 
 pub cleared-all : (ws : List ℕ) → cleared ws 0 ≡ replicate (length ws) 0
@@ -88,24 +88,35 @@ module _ (text ws : List ℕ) where
         fits : lexed text lent ≡ done (n ∷ [])
         fits = unfold lexed in (rw (le-ltb longestText (length text) h, e, ← en, le-ltb lent n (omega arith)))
 
--- The empty part, and the part of a token.
+-- Whether a token covers a part of the text, by the tests in turn.
 module _ (text tokens : List ℕ) (n : ℕ) where
-  pub past-words : length tokens ≤ n → [] ≡ spellingOf text tokens n
-  unfolding spellingOf
+  pub past-words : length tokens ≤ n → covers text tokens n ≡ false
+  unfolding covers
   past-words h = rw (le-ltb n (length tokens) h)
 
   module _ (h : n < length tokens) (start end : ℕ) (es : start ≡ startOf tokens n) (ee : end ≡ tokenEnd (getD tokens n 0)) where
-    pub falling : end < start → [] ≡ spellingOf text tokens n
-    unfolding spellingOf
+    pub falling : end < start → covers text tokens n ≡ false
+    unfolding covers
     falling g = rw (lt-ltb n (length tokens) h, ← es, ← ee, lt-leb start end g)
 
-    pub past-text : start ≤ end → length text < end → [] ≡ spellingOf text tokens n
-    unfolding spellingOf
-    past-text f g = rw (lt-ltb n (length tokens) h, ← es, ← ee, le-leb start end f, lt-leb end (length text) g)
+    module _ (f : start ≤ end) where
+      pub past-text : length text < end → covers text tokens n ≡ false
+      unfolding covers
+      past-text g = rw (lt-ltb n (length tokens) h, ← es, ← ee, le-leb start end f, lt-leb end (length text) g)
 
-    pub covered : start ≤ end → end ≤ length text → take (end - start) (drop start text) ≡ spellingOf text tokens n
-    unfolding spellingOf
-    covered f g = rw (lt-ltb n (length tokens) h, ← es, ← ee, le-leb start end f, le-leb end (length text) g)
+      -- The part of a token, and where it begins.
+      pub covered : end ≤ length text → (part whole : ℕ × ℕ) → Begins part whole start
+          → (take (end - start) (drop start text) ≡ spellingOf text tokens n) × Begins part whole (spellingStart text tokens n)
+      unfolding covers spellingOf spellingStart
+      covered g part whole b =
+          rw (lt-ltb n (length tokens) h, ← es, ← ee, le-leb start end f, le-leb end (length text) g) (refl, b)
+
+  -- The empty part, and where it begins.
+  pub empty : covers text tokens n ≡ false → (bytes : List ℕ) → length bytes ≡ 0 → (part whole : ℕ × ℕ) → Begins part whole 0
+      → (bytes ≡ spellingOf text tokens n) × Begins part whole (spellingStart text tokens n)
+  unfolding spellingOf spellingStart
+  empty h [] e part whole b = rw h (refl, b)
+  empty h (x ∷ bytes) e part whole b = absurd (omega arith)
 
 pub start-next : (tokens : List ℕ) (n : ℕ) → (n ≡ 0 → ⊥) → tokenEnd (getD tokens (n - 1) 0) ≡ startOf tokens n
 start-next tokens zero h = absurd (h refl)
@@ -134,13 +145,6 @@ lexed-small text lent = long (ltb longestText (length text)) refl
         → Small (cond t (refused Refusal.TooLong longestText) (elim (checked text) [ Bad way at ↦ refused (notUtf8 way) at | Good ↦ cond (ltb lent (length (tokensOf text))) (refused Refusal.TokensDontFit (length (tokensOf text))) (done (length (tokensOf text) ∷ [])) ]))
     long true e = placed {place = longestText} (omega arith)
     long false e = good (checked text) refl (ltb-false longestText (length text) e)
-
-pub count-small : (text : List ℕ) (lent n : ℕ) → done (n ∷ []) ≡ lexed text lent → n ≤ 65537
-count-small text lent n e = go (lexed-small text lent) e
-  where
-    go : {a : Answer} → Small a → done (n ∷ []) ≡ a → n ≤ 65537
-    go (counted {n = m} h) e = let f : n ≡ m = cc in omega arith
-    go (placed h) e = let z : _≡_ {A = ℕ} 0 1 = cc in omega arith
 
 pub place-small : (text : List ℕ) (lent number place : ℕ) → refused number place ≡ lexed text lent → place ≤ 65537
 place-small text lent number place e = go (lexed-small text lent) e

@@ -2,10 +2,8 @@
 use mathlib.Core.Path.{_≡_, refl}
 use mathlib.Core.List.{List, [], _∷_, _++_, map}
 use Prim.Native.Nat.{ℕ}
-use Prim.Native.String.{String}
 use Rattle.words.specs.Token as TokenKind
 use Rattle.utf8.specs.Utf8.{has, follow, sequenceBy, table, leadBits, joined, codePoint, characterAt}
-use Rattle.scan.specs.declared.Token.{Token}
 use Rattle.scan.specs.Bytes.{ascii, digit, upper, lower, identStart, identPart, blank, isDigit}
 use Rattle.scan.specs.Lexer.{tokensOf, tokensFrom, tokenAt, longest, rules, punctuation, keywords, others, matched, spelled, classed, run, string, number, blockComment, lineComment, invalidChar}
 

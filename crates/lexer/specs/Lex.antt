@@ -1,7 +1,8 @@
 -- What the public calls answer and leave, from document 01.
+use mathlib.Core.Path.{_≡_}
 use mathlib.Core.List.{List, [], _∷_, map}
-use mathlib.Core.Bool.{cond, _&&_}
-use Prim.Native.Nat.{ℕ, zero, suc, _-_}
+use mathlib.Core.Bool.{Bool, cond, _&&_}
+use Prim.Native.Nat.{ℕ, zero, suc, _+_, _-_}
 use lib.Dec.{ltb, leb}
 use lib.ListN.{length, getD, take, drop}
 use Rattle.words.specs.Refusal
@@ -50,10 +51,23 @@ abbrev pub startOf : List ℕ → ℕ → ℕ
 startOf tokens zero = 0
 startOf tokens (suc n) = tokenEnd (getD tokens n 0)
 
+-- Whether token n is among the words, and covers a part of the text.
+unfoldable pub covers : List ℕ → List ℕ → ℕ → Bool
+covers text tokens n =
+    let end = tokenEnd (getD tokens n 0) in
+    ltb n (length tokens) && (leb (startOf tokens n) end && leb end (length text))
+
 -- "A token's spelling is the part of the lent text that it covers ..; a token number past the words, or ends that fall or
 -- pass the text, give the empty part."
 unfoldable pub spellingOf : List ℕ → List ℕ → ℕ → List ℕ
 spellingOf text tokens n =
     let start = startOf tokens n in
-    let end = tokenEnd (getD tokens n 0) in
-    cond (ltb n (length tokens) && (leb start end && leb end (length text))) (take (end - start) (drop start text)) []
+    cond (covers text tokens n) (take (tokenEnd (getD tokens n 0) - start) (drop start text)) []
+
+-- Where that part begins in the text; the empty part, at the text's first byte.
+unfoldable pub spellingStart : List ℕ → List ℕ → ℕ → ℕ
+spellingStart text tokens n = cond (covers text tokens n) (startOf tokens n) 0
+
+-- A part begins so many bytes into the whole: in the same block, at an offset so much greater.
+abbrev pub Begins : ℕ × ℕ → ℕ × ℕ → ℕ → Type 0
+Begins part whole n = (part .0 ≡ whole .0) × (part .1 ≡ whole .1 + n)

@@ -5,7 +5,7 @@ ghost use Prim.Native.Nat.{_-_, _≤_, _<_};
 ghost use lib.ListN.{length, set, take, replicate};
 ghost use lib.Seq.{sets};
 ghost use Rattle.scan.specs.Lexer.{tokensOf, word};
-ghost use Rattle.lexer.specs.Lex.{answer, lexed, lexedWords, notUtf8, startOf, spellingOf};
+ghost use Rattle.lexer.specs.Lex.{answer, lexed, lexedWords, notUtf8, startOf, spellingOf, spellingStart, Begins};
 use utf8::Checked;
 use utf8::Way;
 use words::refusal;
@@ -105,21 +105,22 @@ fn start_of(tokens: &[u32], n: usize) -> usize
     words::token_end(tokens[n - 1]) as usize
 }
 
-// The part of the text that the n-th token covers; the empty part where there is no such token, or its ends fall or pass
-// the text.
+// The part of the text that the n-th token covers; the empty part, at the text's first byte, where there is no such token, or its ends
+// fall or pass the text.
 pub fn spelling<'a>(text: &'a [u8], tokens: &[u32], n: usize) -> &'a [u8]
-    ensures { λ r. ⌜ now r ≡ spellingOf (now (text .entry)) (now (tokens .entry)) n ⌝ }
+    ensures { λ r. ⌜ (now r ≡ spellingOf (now (text .entry)) (now (tokens .entry)) n) × Begins (r .ptr) (text .entry .ptr) (spellingStart (now (text .entry)) (now (tokens .entry)) n) ⌝ }
 {
+    let empty = &text[0..0];
     if tokens.len() <= n {
-        return &text[0..0];
+        return empty;
     }
     let start = start_of(tokens, n);
     let end = words::token_end(tokens[n]) as usize;
     if end < start {
-        return &text[0..0];
+        return empty;
     }
     if text.len() < end {
-        return &text[0..0];
+        return empty;
     }
     &text[start..end]
 }

@@ -1,5 +1,5 @@
 -- What parsing answers, in document 01's terms, and that the file's reading comes to it.
-use mathlib.Core.Path.{_≡_, refl, sym, _∙_, ap}
+use mathlib.Core.Path.{_≡_, ap}
 use mathlib.Core.Bool.{cond}
 use mathlib.Core.List.{List, [], _∷_}
 use Prim.Native.Nat.{ℕ, _≤_, _<_}
@@ -10,7 +10,7 @@ use Rattle.words.specs.Answer.{Answer}
 use Rattle.words.specs.Answer as Answer
 use Rattle.words.specs.Refusal
 use Rattle.lexer.specs.Lex.{longestText}
-use Rattle.definition.specs.Prog.{Memory, memory, Out, done, refused}
+use Rattle.definition.specs.Prog.{Memory, Out, done, refused}
 use Rattle.definition.specs.Declarations.{parseFile}
 use Rattle.definition.specs.Parse.{maxDepth, start, zeros, parsedTo, parsedWithin, parsed}
 use Rattle.definition.specs.Parse.{Parsed as Definition}
@@ -20,7 +20,7 @@ use Rattle.reading.specs.Does.{Does, run}
 use Rattle.parser.specs.declared.Parsed.{Parsed}
 use Rattle.parser.specs.declared.Parsed.the-variants.{Counts, Refused}
 
--- "Success returns the counts of nodes, value words and reports", "a refusal returns number and place" (01).
+-- "Success returns the counts of .. nodes, value words and reports", "A refusal returns number and place" (01).
 abbrev pub answer : Parsed → Answer
 answer (Counts nodes values reports) = Answer.done (nodes ∷ values ∷ reports ∷ [])
 answer (Refused number place) = Answer.refused number place

@@ -1,7 +1,6 @@
 -- Two texts in which tokens are spelled alike are parsed alike: the parser looks at a text through its tokens alone.
 use mathlib.Core.Path.{_≡_, refl, _∙_, ap}
 use mathlib.Core.Bool.{Bool, true, false}
-use mathlib.Core.Option.{Option}
 use mathlib.Core.List.{List}
 use Prim.Native.Nat.{ℕ, zero, suc, pred, _+_, _-_, _≤_}
 use lib.ListN.{length}
@@ -11,7 +10,7 @@ use Rattle.literals.specs.Spelling.{firstAlike}
 use Rattle.definition.specs.declared.State.{State}
 use Rattle.definition.specs.declared.Mode.{Mode}
 use Rattle.definition.specs.Prog
-use Rattle.definition.specs.Prog.{Prog, Turn, again, stop, Memory, memory, Out, done, refused, bind, Readers, kindAt, passed, skipped, iter, eval, tower}
+use Rattle.definition.specs.Prog.{Prog, Turn, again, stop, Memory, Out, done, refused, bind, Readers, kindAt, passed, skipped, iter, eval, tower}
 use Rattle.definition.specs.Expressions.{tryParseExprMinBp}
 use Rattle.definition.specs.Statements.{parseBlock}
 use Rattle.definition.specs.Declarations.{parseFile}
@@ -43,10 +42,6 @@ module _ {S : Type 0} (f g : S → State → Memory → Out (Turn S)) (e : (x : 
   iter-same (suc k) x s m = ap (λ (o : Out (Turn S)). bind o (after (iter f k))) (e x s m) ∙ bind-same (g x s m) (after (iter f k)) (after (iter g k)) (after-same (iter f k) (iter g k) (iter-same k))
 
 module _ (a b tokens : List ℕ) where
-  passed-same : Same (passed a tokens) (passed b tokens)
-  unfolding passed kindAt
-  passed-same s m = refl
-
   skipped-same : (left : ℕ) → Same (skipped a tokens left) (skipped b tokens left)
   unfolding skipped passed kindAt
   skipped-same zero s m = refl

@@ -58,7 +58,7 @@ fn begin(tokens: &[u32]) -> Reading
     }
 }
 
-// "Depth is the number of `try_parse_expr_min_bp` and `parse_block` readings open at one moment; entering the 257th is refusal 3" (01).
+// "Depth is the number of `try_parse_expr_min_bp` and `parse_block` readings open at one moment ..; entering the 257th is refusal 3" (01, Refusals).
 const MAX_DEPTH: u32 = 256;
 
 // Texts of up to so many tokens are parsed as they are: to look at all tokens for each name takes less time than to make a table.

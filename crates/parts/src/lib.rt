@@ -4,7 +4,7 @@ ghost use Rattle.definition.specs.Nodes.{skipTriviaStart, allocLastTokenAsNode}
 ghost use Rattle.definition.specs.Expressions.{checkBinaryOp, eatUnary, unwrapOrError, accessName, memberExpr, eats};
 ghost use Rattle.reading.specs.Does.{Does};
 ghost use Rattle.cst.specs.Cst.{maybe};
-ghost use Rattle.answers.specs.Parts.{element, operator, recover, pushClose, endStmt, closeInto, closeIf, closeBlock, addElement, openBinary, closeOperand, stmtResult, literal, boolean, named, noAccessName};
+ghost use Rattle.answers.specs.Parts.{element, operator, pushClose, endStmt, closeInto, closeIf, closeBlock, addElement, openBinary, closeOperand, stmtResult, literal, boolean, named, noAccessName};
 use answers::Element;
 use answers::Listed;
 use answers::Operator;
@@ -30,7 +30,6 @@ use reading::Got;
 use reading::Maybe;
 use reading::Opened;
 use reading::Reading;
-use recovery::pass_unexpected;
 use stream::contains;
 use stream::eat;
 use stream::emit_unexpected;
@@ -58,22 +57,6 @@ pub fn skip_trivia_start(
     let state = at.state;
     let cursor = state.cursor;
     Got { it: cursor.at, at }
-}
-
-// A token that begins no element is passed; the first of them is reported.
-pub fn recover(
-    d: u32,
-    s: Reading,
-    text: &[u8],
-    tokens: &[u32],
-    nodes: &mut [u32],
-    values: &mut [u32],
-    reports: &mut [u32],
-    emitted: bool,
-) -> Reading
-    ensures { λ r. ⌜ Does (now (text .entry)) (now (tokens .entry)) d (recover emitted) s (memory (now (nodes .entry)) (now (values .entry)) (now (reports .entry))) tt r (memory (now (nodes .exit)) (now (values .exit)) (now (reports .exit))) ⌝ }
-{
-    pass_unexpected(d, s, text, tokens, nodes, values, reports, emitted)
 }
 
 // ---- operators
@@ -456,7 +439,7 @@ pub fn named(
 
 // ---- members
 
-pub fn access_name(
+fn access_name(
     d: u32,
     s: Reading,
     text: &[u8],

@@ -1,12 +1,12 @@
 // What is done where a token is not there (parser/mod.rs, `expect_check_recovery`, `skip_until_recovery_token`, and the recovery
 // branch of `parse_delimited`).
 ghost use mathlib.Core.Path.{_≡_};
-ghost use mathlib.Core.Bool.{_&&_, _||_};
+ghost use mathlib.Core.Bool.{_&&_};
 ghost use lib.Dec.{ltb};
 ghost use Rattle.definition.specs.Prog.{memory};
-ghost use Rattle.definition.specs.Tokens.{contains, expectCheckRecovery, skipTurn, skipUntilRecoveryToken};
+ghost use Rattle.definition.specs.Tokens.{contains, expectCheckRecovery, skipUntilRecoveryToken};
 ghost use Rattle.reading.specs.Does.{Does};
-ghost use Rattle.stream.specs.Commands.{missing, turnIf};
+ghost use Rattle.stream.specs.Commands.{missing};
 ghost use Rattle.stream.specs.Delimited.{listEnds, passUnexpected};
 use reading::Reading;
 use reading::Told;
@@ -99,48 +99,7 @@ pub fn expect_check_recovery(
     Told { is, at: told }
 }
 
-pub struct Going {
-    pub on: bool,
-    pub at: Reading,
-}
-
-// Whether skipping ends at a token.
-fn is_end(ended: bool, recovery: &[u32], token: u32) -> bool
-    ensures { λ r. ⌜ r ≡ (ended || contains (now (recovery .entry)) token) ⌝ }
-{
-    if ended {
-        return true;
-    }
-    contains(recovery, token)
-}
-
-// One turn of the loop below: whether it goes on.
-fn skip_turn(
-    d: u32,
-    s: Reading,
-    text: &[u8],
-    tokens: &[u32],
-    nodes: &mut [u32],
-    values: &mut [u32],
-    reports: &mut [u32],
-    recovery: &[u32],
-) -> Going
-    ensures { λ r. ⌜ Does (now (text .entry)) (now (tokens .entry)) d (skipTurn (now (recovery .entry)) tt) s (memory (now (nodes .entry)) (now (values .entry)) (now (reports .entry))) (turnIf (r .on)) (r .at) (memory (now (nodes .exit)) (now (values .exit)) (now (reports .exit))) ⌝ }
-{
-    let ended = eof(d, s, text, tokens, nodes, values, reports);
-    let at = ended.at;
-    let found = peek(d, at, text, tokens, nodes, values, reports);
-    let next = found.at;
-    if is_end(ended.is, recovery, found.it) {
-        return Going {
-            on: false,
-            at: next,
-        };
-    }
-    let past = pass(d, next, text, tokens, nodes, values, reports);
-    Going { on: true, at: past }
-}
-
+// Tokens are passed up to one of these, or to the end of all: the scan for it leaves both loops.
 pub fn skip_until_recovery_token(
     d: u32,
     s: Reading,
@@ -155,16 +114,26 @@ pub fn skip_until_recovery_token(
 {
     let mut left = turns_of(tokens);
     let mut at = s;
-    while 0 < left {
+    'skip: while 0 < left {
         if at.refusal != 0 {
-            return at;
-        }
-        left -= 1;
-        let turn = skip_turn(d, at, text, tokens, nodes, values, reports, recovery);
-        at = turn.at;
-        if !turn.on {
             break;
         }
+        left -= 1;
+        let ended = eof(d, at, text, tokens, nodes, values, reports);
+        let found = peek(d, ended.at, text, tokens, nodes, values, reports);
+        at = found.at;
+        if ended.is {
+            break;
+        }
+        let token = found.it;
+        let mut i = 0;
+        while i < recovery.len() {
+            if token == recovery[i] {
+                break 'skip;
+            }
+            i += 1;
+        }
+        at = pass(d, at, text, tokens, nodes, values, reports);
     }
     at
 }

@@ -1,8 +1,8 @@
 -- Laws of spellings that are alike, and of the first of them.
-use mathlib.Core.Path.{_≡_, refl, sym, _∙_, ap}
+use mathlib.Core.Path.{_≡_, refl, _∙_, ap}
 use mathlib.Core.Bool.{Bool, true, false, _&&_, and-false}
 use mathlib.Core.List.{List, [], _∷_}
-use Prim.Native.Nat.{ℕ, zero, suc, _+_, _≤_, _<_}
+use Prim.Native.Nat.{ℕ, suc, _+_, _≤_, _<_}
 use native.Mathlib.Omega.{arith}
 use native.Mathlib.Numerals.{add-one}
 use borrow.Author.Tests.{eq-eqb, ne-eqb}
@@ -33,9 +33,9 @@ module _ (a b : List ℕ) (i : ℕ) (ha : i < length a) (hb : i < length b) wher
   pub alike-next : getD a i 0 ≡ getD b i 0 → alike (drop i a) (drop i b) ≡ alike (drop (i + 1) a) (drop (i + 1) b)
   alike-next h = apart ∙ rw (eq-eqb (getD a i 0) (getD b i 0) h)
 
-pub alike-over : (a b : List ℕ) (i : ℕ) → length a ≡ length b → length a ≤ i → alike (drop i a) (drop i b) ≡ true
+pub alike-over : (a b : List ℕ) (i : ℕ) → length a ≡ length b → length b ≤ i → alike (drop i a) (drop i b) ≡ true
 unfolding alike
-alike-over a b i e h = rw (drop-of-length-le a {i = i} h, drop-of-length-le b {i = i} (omega arith))
+alike-over a b i e h = rw (drop-of-length-le a {i = i} (omega arith), drop-of-length-le b {i = i} h)
 
 -- The kind of a token; past the words stands an Eof.
 abbrev pub kindAt : List ℕ → ℕ → ℕ
@@ -79,6 +79,18 @@ module _ (text tokens : List ℕ) (kind : ℕ) where
       pub first-on : (t : Bool) → t ≡ test → t ≡ false → from n ≡ from (n + 1)
       unfolding tokenStart
       first-on t e g = opened ∙ rw (← e, g, add-one)
+
+      -- By the kind of token `n`, and then by its spelling.
+      module _ (k : ℕ) (is-kind : k ≡ kindAt tokens n) where
+        pub first-other : (k ≡ kind → ⊥) → from n ≡ from (n + 1)
+        first-other g = first-on false (named-other n name k is-kind g) refl
+
+        module _ (g : k ≡ kind) (source : List ℕ) (f : source ≡ spellingOf text tokens n) where
+          pub first-spelled : alike source name ≡ true → from n ≡ n
+          first-spelled = first-here (alike source name) (named-kind n name k is-kind g source f)
+
+          pub first-differs : alike source name ≡ false → from n ≡ from (n + 1)
+          first-differs = first-on (alike source name) (named-kind n name k is-kind g source f)
 
     pub first-over : (n : ℕ) → length tokens ≤ n → from n ≡ n
     unfolding firstFrom

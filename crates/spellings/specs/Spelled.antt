@@ -1,17 +1,17 @@
 -- A token's spelling, as crate lexer gives it and as crate literals defines it.
 use mathlib.Core.Path.{_≡_, refl, sym, _∙_, ap}
-use mathlib.Core.Bool.{Bool, true, false, cond, _&&_, and-false}
+use mathlib.Core.Bool.{Bool, true, false, cond, _&&_}
 use mathlib.Core.List.{List, [], _∷_}
 use Prim.Native.Nat.{ℕ, zero, suc, _+_, _-_, _≤_, _<_}
 use native.Mathlib.Omega.{arith}
-use borrow.Author.Tests.{lt-ltb, le-ltb, ltb-true, ltb-false, leb-true}
+use borrow.Author.Tests.{ltb-true, ltb-false, leb-true}
 use lib.Dec.{ltb, leb, leb·zero}
 use lib.ListN.{length, getD, take, drop, List·getD-eq-default}
 use lib.Seq.{slice, slice-empty, take-add, drop-at, length-take-le}
 use Rattle.words.specs.Token
 use Rattle.words.specs.Words.{tokenWord, tokenEnd, pack, low}
-use Rattle.lexer.specs.Lex.{startOf, spellingOf}
-use Rattle.literals.specs.Spelling.{span, wordAt, tokenStart, covered, tokenSpan, spelling}
+use Rattle.lexer.specs.Lex.{startOf, covers, spellingOf}
+use Rattle.literals.specs.Spelling.{span, wordAt, tokenStart, covered, spelling}
 
 -- Which word stands past the last one doesn't matter before it.
 pub within : (ws : List ℕ) (n a b : ℕ) → n < length ws → getD ws n a ≡ getD ws n b
@@ -57,7 +57,7 @@ covered-same text f t = go (leb f t) (leb t (length text)) refl refl
     go false b h g = refl
 
 pub spelled : (text tokens : List ℕ) (n : ℕ) → spellingOf text tokens n ≡ spelling text tokens n
-unfolding spellingOf
+unfolding spellingOf covers
 spelled text tokens n = go (ltb n (length tokens)) refl
   where
     go : (t : Bool) → ltb n (length tokens) ≡ t → spellingOf text tokens n ≡ spelling text tokens n

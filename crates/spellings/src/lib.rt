@@ -6,23 +6,6 @@ ghost use Rattle.words.specs.Words.{tokenKind};
 ghost use Rattle.literals.specs.Spelling.{wordAt, spelling, alike, firstAlike};
 use words::token;
 
-// Whether two spellings are the same bytes.
-fn alike(a: &[u8], b: &[u8]) -> bool
-    ensures { λ r. ⌜ r ≡ alike (now (a .entry)) (now (b .entry)) ⌝ }
-{
-    if a.len() != b.len() {
-        return false;
-    }
-    let mut i = 0;
-    while i < a.len() {
-        if a[i] != b[i] {
-            return false;
-        }
-        i += 1;
-    }
-    true
-}
-
 // The kind of a token; past the words stands an Eof.
 pub fn kind_at(tokens: &[u32], i: usize) -> u32
     ensures { λ r. ⌜ r ≡ tokenKind (wordAt (now (tokens .entry)) i) ⌝ }
@@ -40,20 +23,38 @@ pub fn named(text: &[u8], tokens: &[u32], kind: u32, name: &[u8], n: usize) -> b
     if kind_at(tokens, n) != kind {
         return false;
     }
-    alike(lexer::spelling(text, tokens, n), name)
+    let spelled = lexer::spelling(text, tokens, n);
+    if spelled.len() != name.len() {
+        return false;
+    }
+    for j in 0..name.len() {
+        if spelled[j] != name[j] {
+            return false;
+        }
+    }
+    true
 }
 
-// The number of the first token of the kind that is spelled as token `i`.
+// The number of the first token of the kind that is spelled as token `i`. Where a byte differs, the scan of bytes goes on to the next
+// token.
 pub fn first_alike(text: &[u8], tokens: &[u32], kind: u32, i: u32) -> usize
     ensures { λ r. ⌜ r ≡ firstAlike (now (text .entry)) (now (tokens .entry)) kind i ⌝ }
 {
     let name = lexer::spelling(text, tokens, i as usize);
-    let mut n = 0;
-    while n < tokens.len() {
-        if named(text, tokens, kind, name, n) {
-            return n;
+    'tokens: for n in 0..tokens.len() {
+        if kind_at(tokens, n) != kind {
+            continue;
         }
-        n += 1;
+        let other = lexer::spelling(text, tokens, n);
+        if other.len() != name.len() {
+            continue;
+        }
+        for j in 0..name.len() {
+            if other[j] != name[j] {
+                continue 'tokens;
+            }
+        }
+        return n;
     }
-    n
+    tokens.len()
 }

@@ -1,23 +1,15 @@
 -- The characters of a part of the text, by where they stand, and the pieces that decoding cuts them into.
-use mathlib.Core.Path.{_≡_, refl, sym, _∙_, ap}
-use mathlib.Core.Bool.{Bool, true, false}
-use mathlib.Core.Option.{Option, none, some}
+use mathlib.Core.Path.{_≡_, refl, _∙_, ap}
 use mathlib.Core.List.{List, [], _∷_}
-use Prim.Native.Nat.{ℕ, zero, suc, _+_, _-_, _*_, _≤_, _<_}
+use Prim.Native.Nat.{ℕ, zero, suc, _+_, _-_, _≤_, _<_}
 use native.Mathlib.Nat.{add-zero}
 use native.Mathlib.Omega.{arith}
-use native.Mathlib.Numerals.{add-one}
-use borrow.Author.Tests.{lt-ltb, le-ltb, eq-eqb, ne-eqb}
-use lib.Dec.{eqb, ltb}
 use lib.ListN.{length, getD, drop, length-drop, drop-of-length-le}
 use lib.Seq.{drop-cons, drop-drop}
-use Rattle.words.specs.Report
 use Rattle.utf8.specs.Utf8.{characterAt}
-use Rattle.utf8.specs.Laws.{CharacterFits, character-fits}
+use Rattle.utf8.specs.Laws.{character-fits}
 use Rattle.utf8.specs.declared.Character.the-variants.{Is, Nothing}
-use Rattle.literals.specs.Spelling.{span}
-use Rattle.literals.specs.Numbers.{nibble}
-use Rattle.literals.specs.Strings.{Event, byte, report, Char, char, charactersFrom, isAscii, run, endAfter, Piece, piece, escape, twoDigits, escaped, decodedPiece, decodedFrom}
+use Rattle.literals.specs.Strings.{Event, Char, char, charactersFrom, decodedFrom}
 
 -- Characters that are skipped in part start later.
 skipped : (at k : ℕ) (s : List ℕ) → charactersFrom at k s ≡ charactersFrom (at + k) 0 (drop k s)

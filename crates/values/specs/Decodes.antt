@@ -2,7 +2,7 @@
 use mathlib.Core.Path.{_≡_, refl, sym, _∙_, ap}
 use mathlib.Core.Bool.{Bool, true, false, cond}
 use mathlib.Core.List.{List, [], _∷_, _++_, append-nil, append-assoc}
-use Prim.Native.Nat.{ℕ, _+_, _*_, _≤_, _<_}
+use Prim.Native.Nat.{ℕ, _+_, _*_}
 use native.Mathlib.Omega.{arith}
 use borrow.Author.Tests.{eq-eqb, eqb-true}
 use lib.Dec.{eqb, leb}
@@ -16,7 +16,7 @@ use Rattle.definition.specs.Prog.{Prog, emit, Memory, memory, Out, done, refuse
 use Rattle.definition.specs.Strings.{emitEvents}
 use Rattle.reading.specs.declared.Reading.{Reading}
 use Rattle.reading.specs.Source.{Right}
-use Rattle.reading.specs.Does.{Does, run, view, from, gives, then}
+use Rattle.reading.specs.Does.{Does, run, gives, then}
 use Rattle.values.specs.declared.Count.{Count}
 use Rattle.values.specs.Fours.{Held, PushByte}
 

@@ -1,5 +1,5 @@
 -- What a character counts as a digit, by where it stands.
-use mathlib.Core.Path.{_≡_, refl, _∙_}
+use mathlib.Core.Path.{_≡_, refl}
 use mathlib.Core.Logic.{_⊎_, inl, inr, ⊎-elim}
 use mathlib.Core.Bool.{Bool, false, true, _&&_, and-false}
 use mathlib.Core.Option.{none, some}

@@ -6,11 +6,10 @@ use Prim.Native.Nat.{ℕ, zero, suc, _+_, _-_, _*_, _/_, _%_, _≤_, _<_}
 use native.Mathlib.Omega.{arith}
 use native.Mathlib.Nat.{mul-le-mul-right}
 use native.Mathlib.Numerals.{add-one}
-use lib.ListN.{length, getD, take, drop, set, length-append, length-drop, length-set, drop-of-length-le, take-append-drop}
+use lib.ListN.{length, getD, take, drop, set, length-append, length-set, drop-of-length-le, take-append-drop}
 use lib.Seq.{length-take-le, take-all, take-suc, take-suc-set, drop-set-lt, drop-cons, drop-append-le, drop-drop, append-snoc}
 use Rattle.literals.specs.Numbers.{limbBase, limbs, nibble, digits}
-use Rattle.values.specs.declared.Count.{Count}
-use Rattle.values.specs.declared.Count.the-variants.{Words, DontFit}
+use Rattle.values.specs.declared.Count.the-variants.{Words}
 use Rattle.values.specs.Limbs.{limbs-zero, limbs-more, limbs-one}
 use Rattle.values.specs.Numbers.{Put}
 use Rattle.values.specs.Chunks.{digits-some, digits-pass}

@@ -1,7 +1,7 @@
 -- What stands between the quotes of a string token, and where.
 use mathlib.Core.Path.{_≡_, refl, sym, _∙_, ap}
 use mathlib.Core.Bool.{Bool, true, false, cond, _&&_}
-use mathlib.Core.List.{List, [], _∷_}
+use mathlib.Core.List.{List, []}
 use Prim.Native.Nat.{ℕ, zero, suc, _+_, _-_, _≤_, _<_}
 use native.Mathlib.Nat.{add-zero}
 use native.Mathlib.Omega.{arith}
@@ -15,7 +15,7 @@ use Rattle.words.specs.Words.{tokenWord, tokenEnd}
 use Rattle.words.specs.Laws.{low-fits}
 use Rattle.lexer.specs.Lex.{spellingOf}
 use Rattle.literals.specs.Spelling.{span, wordAt, tokenStart, tokenSpan, covered, spelling}
-use Rattle.literals.specs.Strings.{Event, inside, decodedFrom, decodeString, charactersFrom, hexFrom, decodeHex}
+use Rattle.literals.specs.Strings.{inside, decodedFrom, decodeString, charactersFrom, hexFrom, decodeHex}
 use Rattle.values.specs.Chars.{events}
 use Rattle.values.specs.Hex.{hexEvents}
 use Rattle.spellings.specs.Spelled.{within, spelled, last-end}

@@ -1,12 +1,11 @@
 -- Values stored: the words of one from an offset on, if there is room, and what `value` then does.
-use mathlib.Core.Path.{_≡_, refl, sym, _∙_, ap}
+use mathlib.Core.Path.{_≡_, sym, _∙_, ap}
 use mathlib.Core.List.{List, [], _∷_, _++_, append-assoc, append-nil}
-use Prim.Native.Nat.{ℕ, suc, _+_, _-_, _%_, _≤_, _<_}
+use Prim.Native.Nat.{ℕ, _+_, _-_, _%_, _≤_, _<_}
 use native.Mathlib.Omega.{arith}
 use native.Mathlib.Nat.{mod-mod}
 use native.Mathlib.Numerals.{add-one}
 use borrow.Author.Tests.{le-leb, lt-leb}
-use lib.Dec.{leb}
 use lib.ListN.{length, getD, take, drop, set, length-drop, drop-of-length-le}
 use lib.Seq.{sets, sets-eq, take-all, take-suc, append-snoc, set-at, length-take-le, drop-drop}
 use Rattle.words.specs.Refusal
@@ -14,7 +13,7 @@ use Rattle.words.specs.Value
 use Rattle.words.specs.Words.{pack, valueHead}
 use Rattle.literals.specs.Numbers.{limbs, numberValue}
 use Rattle.definition.specs.declared.State.{State}
-use Rattle.definition.specs.Prog.{value, Memory, memory, Out, done, refused, eval, valued, withValues}
+use Rattle.definition.specs.Prog.{value, Memory, memory, done, refused, eval, valued, withValues}
 use Rattle.reading.specs.declared.Reading.{Reading}
 use Rattle.reading.specs.Does.{Does, refusedAt, goes, halts}
 use Rattle.values.specs.declared.Count.{Count}

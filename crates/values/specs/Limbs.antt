@@ -1,13 +1,13 @@
 -- Limbs times a radix and a number more: what the code does limb by limb, and that it makes the limbs of the product and sum.
-use mathlib.Core.Path.{_≡_, refl, sym, _∙_, ap, ap₂}
-use mathlib.Core.Bool.{Bool, true, false, cond}
+use mathlib.Core.Path.{_≡_, refl, _∙_, ap}
+use mathlib.Core.Bool.{Bool, true, false}
 use mathlib.Core.List.{List, [], _∷_, _++_}
 use Prim.Native.Nat.{ℕ, zero, suc, _+_, _*_, _/_, _%_, _≤_, _<_}
 use native.Mathlib.Omega.{arith}
 use native.Mathlib.Nat.{mul-add-div, mul-add-mod-self-left, mul-le-mul-left}
 use borrow.Author.Tests.{eq-eqb, ne-eqb, eqb-true, eqb-false}
 use lib.Dec.{eqb, lit<}
-use lib.ListN.{length, length-append}
+use lib.ListN.{length}
 use Rattle.literals.specs.Numbers.{limbBase, limbsWithin, limbs}
 
 -- ---- the limbs of a number, the lowest and the others

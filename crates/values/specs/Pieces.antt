@@ -1,18 +1,16 @@
 -- The pieces that decoding cuts characters into, by case.
-use mathlib.Core.Path.{_≡_, refl, sym, _∙_, ap}
-use mathlib.Core.Bool.{Bool, true, false}
-use mathlib.Core.Option.{Option, none, some}
+use mathlib.Core.Path.{_≡_, refl, _∙_}
+use mathlib.Core.Option.{none, some}
 use mathlib.Core.List.{List, [], _∷_}
-use Prim.Native.Nat.{ℕ, zero, suc, _+_, _*_, _≤_, _<_}
+use Prim.Native.Nat.{ℕ, _+_, _*_, _≤_, _<_}
 use native.Mathlib.Omega.{arith}
 use native.Mathlib.Numerals.{add-one}
 use borrow.Author.Tests.{lt-ltb, le-ltb, eq-eqb, ne-eqb}
-use lib.Dec.{eqb, ltb, lit<}
 use lib.ListN.{length}
 use Rattle.words.specs.Report
 use Rattle.literals.specs.Spelling.{span}
 use Rattle.literals.specs.Numbers.{nibble}
-use Rattle.literals.specs.Strings.{Event, byte, report, Char, char, run, endAfter, Piece, piece, from, escape, twoDigits, escaped, decodedPiece, decodedFrom}
+use Rattle.literals.specs.Strings.{Event, byte, report, Char, char, run, endAfter, piece, escape, twoDigits, escaped, decodedPiece, decodedFrom}
 use Rattle.values.specs.declared.strings.Event as code
 use Rattle.values.specs.declared.strings.Event.the-variants.{Byte, Report}
 use Rattle.values.specs.Chars.{chars, events, chars-over, Standing}
@@ -47,9 +45,6 @@ pub record Runs (w : List ℕ) (i j : ℕ) : Type 0 where
   pub within : j ≤ length w
 
 module _ (w : List ℕ) (i : ℕ) where
-  pub runs-first : i ≤ length w → Runs w i i
-  runs-first h = record { end = λ base. refl; rest = λ base. refl; on = omega arith; within = h }
-
   module _ (j : ℕ) (t : Runs w i j) where
     pub run-over : length w ≤ j → Run w i j
     unfolding run endAfter

@@ -2,19 +2,19 @@
 use mathlib.Core.Path.{_≡_, refl, sym, _∙_, ap}
 use mathlib.Core.Bool.{Bool, true, false, not}
 use mathlib.Core.List.{List, [], _∷_, _++_, append-nil, append-assoc}
-use Prim.Native.Nat.{ℕ, zero, suc, _+_, _-_, _*_, _/_, _%_, _≤_, _<_}
+use Prim.Native.Nat.{ℕ, zero, suc, _+_, _*_, _/_, _%_, _≤_, _<_}
 use native.Mathlib.Omega.{arith}
 use lib.ListN.{length, getD, set, take, drop, length-append, length-drop, length-set}
 use lib.Seq.{drop-cons, length-take-le}
 use Rattle.utf8.specs.Laws.{ascii}
 use Rattle.literals.specs.Strings.{Event, byte, fours, bytesOf}
-use Rattle.definition.specs.Prog.{Prog, Memory, memory}
+use Rattle.definition.specs.Prog.{Memory, memory}
 use Rattle.definition.specs.Strings.{emitEvents}
 use Rattle.reading.specs.declared.Reading.{Reading}
-use Rattle.reading.specs.Does.{Does, gives}
+use Rattle.reading.specs.Does.{gives}
 use Rattle.values.specs.declared.Count.{Count}
-use Rattle.values.specs.declared.Count.the-variants.{Words, DontFit}
-use Rattle.values.specs.Chars.{chars, events, Standing, standing-is}
+use Rattle.values.specs.declared.Count.the-variants.{Words}
+use Rattle.values.specs.Chars.{events, Standing, standing-is}
 use Rattle.values.specs.declared.strings.Event as code
 use Rattle.values.specs.declared.strings.Event.the-variants.{Byte}
 use Rattle.values.specs.Pieces.{Cut, Cuts, cut-plain}

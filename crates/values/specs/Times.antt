@@ -1,5 +1,5 @@
 -- The loop that goes over limbs: what it has done, and what is left to do.
-use mathlib.Core.Path.{_≡_, refl, sym, _∙_, ap}
+use mathlib.Core.Path.{_≡_, _∙_}
 use mathlib.Core.List.{List, [], _∷_, _++_, append-nil}
 use Prim.Native.Nat.{ℕ, suc, _+_, _*_, _/_, _%_, _≤_, _<_}
 use native.Mathlib.Omega.{arith}
@@ -23,9 +23,6 @@ pub record Times (radix digit : ℕ) (all ls : List ℕ) (carry i : ℕ) : Type 
   pub fits : carry < limbBase
 
 module _ (radix digit : ℕ) (all : List ℕ) where
-  pub times-first : digit < limbBase → Times radix digit all all digit 0
-  times-first h = record { made = refl; over = refl; kept = refl; fits = h }
-
   module _ (ls : List ℕ) (carry i : ℕ) (t : Times radix digit all ls carry i) where
     module _ (x y z : ℕ) (ex : x ≡ getD ls i 0) (ey : y ≡ radix) (ez : z ≡ carry) (hx : getD ls i 0 < limbBase) (hy : radix < limbBase) where
       pub times-sum : x * y + z < limbBase * limbBase

@@ -1,7 +1,7 @@
 // Number literals.
 ghost use mathlib.Core.Path.{_≡_};
 ghost use Prim.Native.Nat.{_+_, _*_, _≤_, _<_};
-ghost use lib.ListN.{length, take, drop};
+ghost use lib.ListN.{length, drop};
 ghost use Rattle.literals.specs.Numbers.{limbs, digits, numberValue};
 ghost use Rattle.literals.specs.Spelling.{spelling};
 ghost use Rattle.definition.specs.Prog.{value, memory};

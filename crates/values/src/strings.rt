@@ -27,13 +27,13 @@ use utf8::Character;
 use words::report;
 
 // A character: its code point, and the byte where the next one stands.
-pub struct Char {
+struct Char {
     pub code: u32,
     pub end: usize,
 }
 
 // A step of decoding: a byte of the value, or a report.
-pub enum Event {
+enum Event {
     Byte(u32),
     Report {
         kind: u32,
@@ -44,7 +44,7 @@ pub enum Event {
 }
 
 // What one turn of decoding gives, and the byte where the next one begins.
-pub struct Piece {
+struct Piece {
     pub event: Event,
     pub next: usize,
 }
@@ -205,7 +205,7 @@ fn piece_at(w: &[u8], base: usize, i: usize) -> Piece
 }
 
 // A character of a hex string: its code point, what it counts as a digit, whether it is none, and where the next one stands.
-pub struct HexDigit {
+struct HexDigit {
     pub code: u32,
     pub digit: u32,
     pub bad: bool,
@@ -460,7 +460,7 @@ fn bad_digit(
 }
 
 // Where the digits of a hex string stand: what is decoded, whether a bad one was reported, and the byte of the next one.
-pub struct Digits {
+struct Digits {
     pub past: Decoded,
     pub already: bool,
     pub next: usize,

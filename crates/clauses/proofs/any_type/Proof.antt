@@ -26,33 +26,81 @@ close-node-requires : tie.Need-close-node-requires
 close-node-requires c κs = search needs
 
 same-length : tie.Need-same-length
-same-length c = c .before .before .before .before .before .before .close-node .kept .1 .1 .1 .1 .0 ∙ c .before .before .before .before .before .before .before .before .before .before .before .before .before .before .before .before .open-from .kept .1 .1 .1 .1 .0 ∙ c .before .before .before .before .before .before .before .before .before .before .before .before .before .before .before .before .before .before .before .before .before .before .before .before .before .before .before .before .expect2 .kept .1 .1 .1 .1 .0 ∙ c .before .before .before .before .before .before .before .before .before .before .before .before .before .before .before .before .before .before .before .before .before .before .before .before .before .before .before .before .before .before .before .before .before .before .before .before .before .before .expect .kept .1 .1 .1 .1 .0
+same-length c =
+    let at-close-node = c .before .before .before .before .before .before in
+    let at-open-from = at-close-node .before .before .before .before .before .before .before .before .before .before in
+    let at-expect2 = at-open-from .before .before .before .before .before .before .before .before .before .before .before .before in
+    let at-expect = at-expect2 .before .before .before .before .before .before .before .before .before .before in
+    at-close-node .close-node .kept .1 .1 .1 .1 .0 ∙ at-open-from .open-from .kept .1 .1 .1 .1 .0 ∙ at-expect2 .expect2 .kept .1 .1 .1 .1 .0
+    ∙ at-expect .expect .kept .1 .1 .1 .1 .0
 
 same-length-2 : tie.Need-same-length-2
-same-length-2 c = c .before .before .before .before .before .before .close-node .kept .1 .1 .1 .1 .1 .0 ∙ c .before .before .before .before .before .before .before .before .before .before .before .before .before .before .before .before .open-from .kept .1 .1 .1 .1 .1 .0 ∙ c .before .before .before .before .before .before .before .before .before .before .before .before .before .before .before .before .before .before .before .before .before .before .before .before .before .before .before .before .expect2 .kept .1 .1 .1 .1 .1 .0 ∙ c .before .before .before .before .before .before .before .before .before .before .before .before .before .before .before .before .before .before .before .before .before .before .before .before .before .before .before .before .before .before .before .before .before .before .before .before .before .before .expect .kept .1 .1 .1 .1 .1 .0
+same-length-2 c =
+    let at-close-node = c .before .before .before .before .before .before in
+    let at-open-from = at-close-node .before .before .before .before .before .before .before .before .before .before in
+    let at-expect2 = at-open-from .before .before .before .before .before .before .before .before .before .before .before .before in
+    let at-expect = at-expect2 .before .before .before .before .before .before .before .before .before .before in
+    at-close-node .close-node .kept .1 .1 .1 .1 .1 .0 ∙ at-open-from .open-from .kept .1 .1 .1 .1 .1 .0 ∙ at-expect2 .expect2 .kept .1 .1 .1 .1 .1 .0
+    ∙ at-expect .expect .kept .1 .1 .1 .1 .1 .0
 
 same-length-3 : tie.Need-same-length-3
-same-length-3 c = c .before .before .before .before .before .before .close-node .kept .1 .1 .1 .1 .1 .1 .0 ∙ c .before .before .before .before .before .before .before .before .before .before .before .before .before .before .before .before .open-from .kept .1 .1 .1 .1 .1 .1 .0 ∙ c .before .before .before .before .before .before .before .before .before .before .before .before .before .before .before .before .before .before .before .before .before .before .before .before .before .before .before .before .expect2 .kept .1 .1 .1 .1 .1 .1 .0 ∙ c .before .before .before .before .before .before .before .before .before .before .before .before .before .before .before .before .before .before .before .before .before .before .before .before .before .before .before .before .before .before .before .before .before .before .before .before .before .before .expect .kept .1 .1 .1 .1 .1 .1 .0
+same-length-3 c =
+    let at-close-node = c .before .before .before .before .before .before in
+    let at-open-from = at-close-node .before .before .before .before .before .before .before .before .before .before in
+    let at-expect2 = at-open-from .before .before .before .before .before .before .before .before .before .before .before .before in
+    let at-expect = at-expect2 .before .before .before .before .before .before .before .before .before .before in
+    at-close-node .close-node .kept .1 .1 .1 .1 .1 .1 .0 ∙ at-open-from .open-from .kept .1 .1 .1 .1 .1 .1 .0
+    ∙ at-expect2 .expect2 .kept .1 .1 .1 .1 .1 .1 .0 ∙ at-expect .expect .kept .1 .1 .1 .1 .1 .1 .0
 
 returns : tie.Need-returns
 unfolding anyType
-returns c = then position-is (then (c .before .before .before .before .before .before .before .before .before .before .before .before .before .before .before .before .before .before .before .before .before .before .before .before .before .before .before .before .before .before .before .before .before .before .before .before .before .before .expect .ensures) (then (c .before .before .before .before .before .before .before .before .before .before .before .before .before .before .before .before .before .before .before .before .before .before .before .before .before .before .before .before .expect2 .ensures) (when-true (c .before .before .before .before .before .before .before .before .before .before .before .before .before .before .before .before .before .before .before .before .before .if1 .taken) (then intern-is (then (open-cut (c .before .before .before .before .before .before .before .before .before .before .before .before .before .before .before .before .before .before .before .before .before .before .before .before .before .before .before .before .before .before .before .before .before .before .before .before .before .before .before .before .before .before .before .before .before .before .before .before .before .args .s .state .cursor .at) Node.ParamAnyType _ (c .before .before .before .before .before .before .before .before .before .before .before .before .before .before .before .before .before .before .before .before .intern .ensures) (c .before .before .before .before .before .before .before .before .before .before .before .before .before .before .before .before .open-from .ensures)) (c .before .before .before .before .before .before .close-node .ensures))))))
+returns c =
+    let at-close-node = c .before .before .before .before .before .before in
+    let at-open-from = at-close-node .before .before .before .before .before .before .before .before .before .before in
+    let at-intern = at-open-from .before .before .before .before in
+    let at-if1 = at-intern .before in
+    let at-expect2 = at-if1 .before .before .before .before .before .before .before in
+    let at-expect = at-expect2 .before .before .before .before .before .before .before .before .before .before in
+    let at-args = at-expect .before .before .before .before .before .before .before .before .before .before .before in
+    then position-is (then (at-expect .expect .ensures)
+    (then (at-expect2 .expect2 .ensures) (when-true (at-if1 .if1 .taken)
+    (then intern-is (then (open-cut (at-args .args .s .state .cursor .at) Node.ParamAnyType _ (at-intern .intern .ensures)
+    (at-open-from .open-from .ensures)) (at-close-node .close-node .ensures))))))
 
 error-from-requires : tie.Need-error-from-requires
 error-from-requires c κs = search needs
 
 same-length-4 : tie.Need-same-length-4
-same-length-4 c = c .before .before .before .before .before .before .error-from .kept .1 .1 .1 .1 .0 ∙ c .before .before .before .before .before .before .before .before .before .before .before .before .before .before .before .before .before .expect2 .kept .1 .1 .1 .1 .0 ∙ c .before .before .before .before .before .before .before .before .before .before .before .before .before .before .before .before .before .before .before .before .before .before .before .before .before .before .before .expect .kept .1 .1 .1 .1 .0
+same-length-4 c =
+    let at-error-from = c .before .before .before .before .before .before in
+    let at-expect2 = at-error-from .before .before .before .before .before .before .before .before .before .before .before in
+    let at-expect = at-expect2 .before .before .before .before .before .before .before .before .before .before in
+    at-error-from .error-from .kept .1 .1 .1 .1 .0 ∙ at-expect2 .expect2 .kept .1 .1 .1 .1 .0 ∙ at-expect .expect .kept .1 .1 .1 .1 .0
 
 same-length-5 : tie.Need-same-length-5
-same-length-5 c = c .before .before .before .before .before .before .error-from .kept .1 .1 .1 .1 .1 .0 ∙ c .before .before .before .before .before .before .before .before .before .before .before .before .before .before .before .before .before .expect2 .kept .1 .1 .1 .1 .1 .0 ∙ c .before .before .before .before .before .before .before .before .before .before .before .before .before .before .before .before .before .before .before .before .before .before .before .before .before .before .before .expect .kept .1 .1 .1 .1 .1 .0
+same-length-5 c =
+    let at-error-from = c .before .before .before .before .before .before in
+    let at-expect2 = at-error-from .before .before .before .before .before .before .before .before .before .before .before in
+    let at-expect = at-expect2 .before .before .before .before .before .before .before .before .before .before in
+    at-error-from .error-from .kept .1 .1 .1 .1 .1 .0 ∙ at-expect2 .expect2 .kept .1 .1 .1 .1 .1 .0 ∙ at-expect .expect .kept .1 .1 .1 .1 .1 .0
 
 same-length-6 : tie.Need-same-length-6
-same-length-6 c = c .before .before .before .before .before .before .error-from .kept .1 .1 .1 .1 .1 .1 .0 ∙ c .before .before .before .before .before .before .before .before .before .before .before .before .before .before .before .before .before .expect2 .kept .1 .1 .1 .1 .1 .1 .0 ∙ c .before .before .before .before .before .before .before .before .before .before .before .before .before .before .before .before .before .before .before .before .before .before .before .before .before .before .before .expect .kept .1 .1 .1 .1 .1 .1 .0
+same-length-6 c =
+    let at-error-from = c .before .before .before .before .before .before in
+    let at-expect2 = at-error-from .before .before .before .before .before .before .before .before .before .before .before in
+    let at-expect = at-expect2 .before .before .before .before .before .before .before .before .before .before in
+    at-error-from .error-from .kept .1 .1 .1 .1 .1 .1 .0 ∙ at-expect2 .expect2 .kept .1 .1 .1 .1 .1 .1 .0
+    ∙ at-expect .expect .kept .1 .1 .1 .1 .1 .1 .0
 
 returns-2 : tie.Need-returns-2
 unfolding anyType
-returns-2 c = then position-is (then (c .before .before .before .before .before .before .before .before .before .before .before .before .before .before .before .before .before .before .before .before .before .before .before .before .before .before .before .expect .ensures) (then (c .before .before .before .before .before .before .before .before .before .before .before .before .before .before .before .before .before .expect2 .ensures) (when-false (c .before .before .before .before .before .before .before .before .before .before .if1 .left) (c .before .before .before .before .before .before .error-from .ensures))))
+returns-2 c =
+    let at-error-from = c .before .before .before .before .before .before in
+    let at-if1 = at-error-from .before .before .before .before in
+    let at-expect2 = at-if1 .before .before .before .before .before .before .before in
+    let at-expect = at-expect2 .before .before .before .before .before .before .before .before .before .before in
+    then position-is (then (at-expect .expect .ensures)
+    (then (at-expect2 .expect2 .ensures) (when-false (at-if1 .if1 .left) (at-error-from .error-from .ensures))))
 
 pub any-type-spec : {M : Type 1} → statement M
 any-type-spec =

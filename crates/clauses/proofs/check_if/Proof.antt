@@ -8,16 +8,25 @@ check-requires : tie.Need-check-requires
 check-requires c κs = search needs
 
 same-length : tie.Need-same-length
-same-length c = c .before .before .before .before .before .before .check .kept .1 .1 .1 .1 .0
+same-length c =
+    let at-check = c .before .before .before .before .before .before in
+    at-check .check .kept .1 .1 .1 .1 .0
 
 same-length-2 : tie.Need-same-length-2
-same-length-2 c = c .before .before .before .before .before .before .check .kept .1 .1 .1 .1 .1 .0
+same-length-2 c =
+    let at-check = c .before .before .before .before .before .before in
+    at-check .check .kept .1 .1 .1 .1 .1 .0
 
 same-length-3 : tie.Need-same-length-3
-same-length-3 c = c .before .before .before .before .before .before .check .kept .1 .1 .1 .1 .1 .1 .0
+same-length-3 c =
+    let at-check = c .before .before .before .before .before .before in
+    at-check .check .kept .1 .1 .1 .1 .1 .1 .0
 
 returns : tie.Need-returns
-returns c = when-true (c .before .before .before .before .before .before .before .before .before .before .if1 .taken) (c .before .before .before .before .before .before .check .ensures)
+returns c =
+    let at-check = c .before .before .before .before .before .before in
+    let at-if1 = at-check .before .before .before .before in
+    when-true (at-if1 .if1 .taken) (at-check .check .ensures)
 
 returns-2 : tie.Need-returns-2
 returns-2 c = when-false (c .if1 .left) (rw (c .if1 .left) gives)

@@ -25,16 +25,50 @@ close-node-requires : tie.Need-close-node-requires
 close-node-requires c κs = search needs
 
 same-length : tie.Need-same-length
-same-length c = c .before .before .before .before .before .before .before .close-node .kept .1 .1 .1 .1 .0 ∙ c .before .before .before .before .before .before .before .before .before .before .before .before .before .before .before .before .before .open-from .kept .1 .1 .1 .1 .0 ∙ c .before .before .before .before .before .before .before .before .before .before .before .before .before .before .before .before .before .before .before .before .before .before .before .before .before .before .before .past-semicolon .kept .1 .1 .1 .1 .0 ∙ c .before .before .before .before .before .before .before .before .before .before .before .before .before .before .before .before .before .before .before .before .before .before .before .before .before .before .before .before .before .before .before .before .before .before .before .before .before .skip-until-recovery-token .kept .1 .1 .1 .1 .0 ∙ c .before .before .before .before .before .before .before .before .before .before .before .before .before .before .before .before .before .before .before .before .before .before .before .before .before .before .before .before .before .before .before .before .before .before .before .before .before .before .before .before .before .before .before .before .before .before .before .before .emit-unexpected .kept .1 .1 .1 .1 .0
+same-length c =
+    let at-close-node = c .before .before .before .before .before .before .before in
+    let at-open-from = at-close-node .before .before .before .before .before .before .before .before .before .before in
+    let at-past-semicolon = at-open-from .before .before .before .before .before .before .before .before .before .before in
+    let at-skip-until-recovery-token = at-past-semicolon .before .before .before .before .before .before .before .before .before .before in
+    let at-emit-unexpected = at-skip-until-recovery-token .before .before .before .before .before .before .before .before .before .before .before in
+    at-close-node .close-node .kept .1 .1 .1 .1 .0 ∙ at-open-from .open-from .kept .1 .1 .1 .1 .0
+    ∙ at-past-semicolon .past-semicolon .kept .1 .1 .1 .1 .0 ∙ at-skip-until-recovery-token .skip-until-recovery-token .kept .1 .1 .1 .1 .0
+    ∙ at-emit-unexpected .emit-unexpected .kept .1 .1 .1 .1 .0
 
 same-length-2 : tie.Need-same-length-2
-same-length-2 c = c .before .before .before .before .before .before .before .close-node .kept .1 .1 .1 .1 .1 .0 ∙ c .before .before .before .before .before .before .before .before .before .before .before .before .before .before .before .before .before .open-from .kept .1 .1 .1 .1 .1 .0 ∙ c .before .before .before .before .before .before .before .before .before .before .before .before .before .before .before .before .before .before .before .before .before .before .before .before .before .before .before .past-semicolon .kept .1 .1 .1 .1 .1 .0 ∙ c .before .before .before .before .before .before .before .before .before .before .before .before .before .before .before .before .before .before .before .before .before .before .before .before .before .before .before .before .before .before .before .before .before .before .before .before .before .skip-until-recovery-token .kept .1 .1 .1 .1 .1 .0 ∙ c .before .before .before .before .before .before .before .before .before .before .before .before .before .before .before .before .before .before .before .before .before .before .before .before .before .before .before .before .before .before .before .before .before .before .before .before .before .before .before .before .before .before .before .before .before .before .before .before .emit-unexpected .kept .1 .1 .1 .1 .1 .0
+same-length-2 c =
+    let at-close-node = c .before .before .before .before .before .before .before in
+    let at-open-from = at-close-node .before .before .before .before .before .before .before .before .before .before in
+    let at-past-semicolon = at-open-from .before .before .before .before .before .before .before .before .before .before in
+    let at-skip-until-recovery-token = at-past-semicolon .before .before .before .before .before .before .before .before .before .before in
+    let at-emit-unexpected = at-skip-until-recovery-token .before .before .before .before .before .before .before .before .before .before .before in
+    at-close-node .close-node .kept .1 .1 .1 .1 .1 .0 ∙ at-open-from .open-from .kept .1 .1 .1 .1 .1 .0
+    ∙ at-past-semicolon .past-semicolon .kept .1 .1 .1 .1 .1 .0 ∙ at-skip-until-recovery-token .skip-until-recovery-token .kept .1 .1 .1 .1 .1 .0
+    ∙ at-emit-unexpected .emit-unexpected .kept .1 .1 .1 .1 .1 .0
 
 same-length-3 : tie.Need-same-length-3
-same-length-3 c = c .before .before .before .before .before .before .before .close-node .kept .1 .1 .1 .1 .1 .1 .0 ∙ c .before .before .before .before .before .before .before .before .before .before .before .before .before .before .before .before .before .open-from .kept .1 .1 .1 .1 .1 .1 .0 ∙ c .before .before .before .before .before .before .before .before .before .before .before .before .before .before .before .before .before .before .before .before .before .before .before .before .before .before .before .past-semicolon .kept .1 .1 .1 .1 .1 .1 .0 ∙ c .before .before .before .before .before .before .before .before .before .before .before .before .before .before .before .before .before .before .before .before .before .before .before .before .before .before .before .before .before .before .before .before .before .before .before .before .before .skip-until-recovery-token .kept .1 .1 .1 .1 .1 .1 .0 ∙ c .before .before .before .before .before .before .before .before .before .before .before .before .before .before .before .before .before .before .before .before .before .before .before .before .before .before .before .before .before .before .before .before .before .before .before .before .before .before .before .before .before .before .before .before .before .before .before .before .emit-unexpected .kept .1 .1 .1 .1 .1 .1 .0
+same-length-3 c =
+    let at-close-node = c .before .before .before .before .before .before .before in
+    let at-open-from = at-close-node .before .before .before .before .before .before .before .before .before .before in
+    let at-past-semicolon = at-open-from .before .before .before .before .before .before .before .before .before .before in
+    let at-skip-until-recovery-token = at-past-semicolon .before .before .before .before .before .before .before .before .before .before in
+    let at-emit-unexpected = at-skip-until-recovery-token .before .before .before .before .before .before .before .before .before .before .before in
+    at-close-node .close-node .kept .1 .1 .1 .1 .1 .1 .0 ∙ at-open-from .open-from .kept .1 .1 .1 .1 .1 .1 .0
+    ∙ at-past-semicolon .past-semicolon .kept .1 .1 .1 .1 .1 .1 .0
+    ∙ at-skip-until-recovery-token .skip-until-recovery-token .kept .1 .1 .1 .1 .1 .1 .0
+    ∙ at-emit-unexpected .emit-unexpected .kept .1 .1 .1 .1 .1 .1 .0
 
 returns : tie.Need-returns
-returns c = then (c .before .before .before .before .before .before .before .before .before .before .before .before .before .before .before .before .before .before .before .before .before .before .before .before .before .before .before .before .before .before .before .before .before .before .before .before .before .before .before .before .before .before .before .before .before .before .before .before .emit-unexpected .ensures) (then (c .before .before .before .before .before .before .before .before .before .before .before .before .before .before .before .before .before .before .before .before .before .before .before .before .before .before .before .before .before .before .before .before .before .before .before .before .before .skip-until-recovery-token .ensures) (regroup (then (c .before .before .before .before .before .before .before .before .before .before .before .before .before .before .before .before .before .before .before .before .before .before .before .before .before .before .before .past-semicolon .ensures) (then (c .before .before .before .before .before .before .before .before .before .before .before .before .before .before .before .before .before .open-from .ensures) (then (c .before .before .before .before .before .before .before .close-node .ensures) gives)))))
+returns c =
+    let at-close-node = c .before .before .before .before .before .before .before in
+    let at-open-from = at-close-node .before .before .before .before .before .before .before .before .before .before in
+    let at-past-semicolon = at-open-from .before .before .before .before .before .before .before .before .before .before in
+    let at-skip-until-recovery-token = at-past-semicolon .before .before .before .before .before .before .before .before .before .before in
+    let at-emit-unexpected = at-skip-until-recovery-token .before .before .before .before .before .before .before .before .before .before .before in
+    then (at-emit-unexpected .emit-unexpected .ensures)
+    (then (at-skip-until-recovery-token .skip-until-recovery-token .ensures)
+    (regroup (then (at-past-semicolon .past-semicolon .ensures)
+    (then (at-open-from .open-from .ensures) (then (at-close-node .close-node .ensures) gives)))))
 
 pub comptime-error-spec : {M : Type 1} → statement M
 comptime-error-spec =

@@ -25,30 +25,68 @@ push-child-requires : tie.Need-push-child-requires
 push-child-requires c κs = search needs
 
 same-length : tie.Need-same-length
-same-length c = c .before .before .before .before .before .before .before .before .before .before .try-parse-ident .kept .1 .1 .1 .1 .0 ∙ c .before .before .before .before .before .before .before .before .before .before .before .before .before .before .before .before .before .before .before .before .open-from .kept .1 .1 .1 .1 .0
+same-length c =
+    let at-try-parse-ident = c .before .before .before .before .before .before .before .before .before .before in
+    let at-open-from = at-try-parse-ident .before .before .before .before .before .before .before .before .before .before in
+    at-try-parse-ident .try-parse-ident .kept .1 .1 .1 .1 .0 ∙ at-open-from .open-from .kept .1 .1 .1 .1 .0
 
 same-length-2 : tie.Need-same-length-2
-same-length-2 c = c .before .before .before .before .before .before .before .before .before .before .try-parse-ident .kept .1 .1 .1 .1 .1 .0 ∙ c .before .before .before .before .before .before .before .before .before .before .before .before .before .before .before .before .before .before .before .before .open-from .kept .1 .1 .1 .1 .1 .0
+same-length-2 c =
+    let at-try-parse-ident = c .before .before .before .before .before .before .before .before .before .before in
+    let at-open-from = at-try-parse-ident .before .before .before .before .before .before .before .before .before .before in
+    at-try-parse-ident .try-parse-ident .kept .1 .1 .1 .1 .1 .0 ∙ at-open-from .open-from .kept .1 .1 .1 .1 .1 .0
 
 same-length-3 : tie.Need-same-length-3
-same-length-3 c = c .before .before .before .before .before .before .before .before .before .before .try-parse-ident .kept .1 .1 .1 .1 .1 .1 .0 ∙ c .before .before .before .before .before .before .before .before .before .before .before .before .before .before .before .before .before .before .before .before .open-from .kept .1 .1 .1 .1 .1 .1 .0
+same-length-3 c =
+    let at-try-parse-ident = c .before .before .before .before .before .before .before .before .before .before in
+    let at-open-from = at-try-parse-ident .before .before .before .before .before .before .before .before .before .before in
+    at-try-parse-ident .try-parse-ident .kept .1 .1 .1 .1 .1 .1 .0 ∙ at-open-from .open-from .kept .1 .1 .1 .1 .1 .1 .0
 
 returns : tie.Need-returns
 unfolding fallbackArm
-returns c = then (c .before .before .before .before .before .before .before .before .before .before .before .before .before .before .before .before .before .before .before .before .open-from .ensures) (then (rw (c .before .before .enum-told .given .1) at (c .before .before .before .before .before .before .before .before .before .before .try-parse-ident .ensures)) gives)
+returns c =
+    let at-enum-told = c .before .before in
+    let at-try-parse-ident = at-enum-told .before .before .before .before .before .before .before .before in
+    let at-open-from = at-try-parse-ident .before .before .before .before .before .before .before .before .before .before in
+    then (at-open-from .open-from .ensures) (then (rw (at-enum-told .enum-told .given .1) at (at-try-parse-ident .try-parse-ident .ensures)) gives)
 
 same-length-4 : tie.Need-same-length-4
-same-length-4 c = c .before .before .before .before .before .before .push-child .kept .1 .1 .1 .1 .0 ∙ c .before .before .before .before .before .before .before .before .before .before .before .before .before .before .before .before .update-kind .kept .1 .1 .1 .1 .0 ∙ c .before .before .before .before .before .before .before .before .before .before .before .before .before .before .before .before .before .before .before .before .before .before .before .before .before .before .before .before .before .try-parse-ident .kept .1 .1 .1 .1 .0 ∙ c .before .before .before .before .before .before .before .before .before .before .before .before .before .before .before .before .before .before .before .before .before .before .before .before .before .before .before .before .before .before .before .before .before .before .before .before .before .before .before .open-from .kept .1 .1 .1 .1 .0
+same-length-4 c =
+    let at-push-child = c .before .before .before .before .before .before in
+    let at-update-kind = at-push-child .before .before .before .before .before .before .before .before .before .before in
+    let at-try-parse-ident = at-update-kind .before .before .before .before .before .before .before .before .before .before .before .before .before in
+    let at-open-from = at-try-parse-ident .before .before .before .before .before .before .before .before .before .before in
+    at-push-child .push-child .kept .1 .1 .1 .1 .0 ∙ at-update-kind .update-kind .kept .1 .1 .1 .1 .0
+    ∙ at-try-parse-ident .try-parse-ident .kept .1 .1 .1 .1 .0 ∙ at-open-from .open-from .kept .1 .1 .1 .1 .0
 
 same-length-5 : tie.Need-same-length-5
-same-length-5 c = c .before .before .before .before .before .before .push-child .kept .1 .1 .1 .1 .1 .0 ∙ c .before .before .before .before .before .before .before .before .before .before .before .before .before .before .before .before .update-kind .kept .1 .1 .1 .1 .1 .0 ∙ c .before .before .before .before .before .before .before .before .before .before .before .before .before .before .before .before .before .before .before .before .before .before .before .before .before .before .before .before .before .try-parse-ident .kept .1 .1 .1 .1 .1 .0 ∙ c .before .before .before .before .before .before .before .before .before .before .before .before .before .before .before .before .before .before .before .before .before .before .before .before .before .before .before .before .before .before .before .before .before .before .before .before .before .before .before .open-from .kept .1 .1 .1 .1 .1 .0
+same-length-5 c =
+    let at-push-child = c .before .before .before .before .before .before in
+    let at-update-kind = at-push-child .before .before .before .before .before .before .before .before .before .before in
+    let at-try-parse-ident = at-update-kind .before .before .before .before .before .before .before .before .before .before .before .before .before in
+    let at-open-from = at-try-parse-ident .before .before .before .before .before .before .before .before .before .before in
+    at-push-child .push-child .kept .1 .1 .1 .1 .1 .0 ∙ at-update-kind .update-kind .kept .1 .1 .1 .1 .1 .0
+    ∙ at-try-parse-ident .try-parse-ident .kept .1 .1 .1 .1 .1 .0 ∙ at-open-from .open-from .kept .1 .1 .1 .1 .1 .0
 
 same-length-6 : tie.Need-same-length-6
-same-length-6 c = c .before .before .before .before .before .before .push-child .kept .1 .1 .1 .1 .1 .1 .0 ∙ c .before .before .before .before .before .before .before .before .before .before .before .before .before .before .before .before .update-kind .kept .1 .1 .1 .1 .1 .1 .0 ∙ c .before .before .before .before .before .before .before .before .before .before .before .before .before .before .before .before .before .before .before .before .before .before .before .before .before .before .before .before .before .try-parse-ident .kept .1 .1 .1 .1 .1 .1 .0 ∙ c .before .before .before .before .before .before .before .before .before .before .before .before .before .before .before .before .before .before .before .before .before .before .before .before .before .before .before .before .before .before .before .before .before .before .before .before .before .before .before .open-from .kept .1 .1 .1 .1 .1 .1 .0
+same-length-6 c =
+    let at-push-child = c .before .before .before .before .before .before in
+    let at-update-kind = at-push-child .before .before .before .before .before .before .before .before .before .before in
+    let at-try-parse-ident = at-update-kind .before .before .before .before .before .before .before .before .before .before .before .before .before in
+    let at-open-from = at-try-parse-ident .before .before .before .before .before .before .before .before .before .before in
+    at-push-child .push-child .kept .1 .1 .1 .1 .1 .1 .0 ∙ at-update-kind .update-kind .kept .1 .1 .1 .1 .1 .1 .0
+    ∙ at-try-parse-ident .try-parse-ident .kept .1 .1 .1 .1 .1 .1 .0 ∙ at-open-from .open-from .kept .1 .1 .1 .1 .1 .1 .0
 
 returns-2 : tie.Need-returns-2
 unfolding fallbackArm
-returns-2 c = then (c .before .before .before .before .before .before .before .before .before .before .before .before .before .before .before .before .before .before .before .before .before .before .before .before .before .before .before .before .before .before .before .before .before .before .before .before .before .before .before .open-from .ensures) (then (rw (c .before .before .before .before .before .before .before .before .before .before .before .before .before .before .before .before .before .before .before .before .before .it2 .given .1) at (c .before .before .before .before .before .before .before .before .before .before .before .before .before .before .before .before .before .before .before .before .before .before .before .before .before .before .before .before .before .try-parse-ident .ensures)) (then (c .before .before .before .before .before .before .before .before .before .before .before .before .before .before .before .before .update-kind .ensures) (c .before .before .before .before .before .before .push-child .ensures)))
+returns-2 c =
+    let at-push-child = c .before .before .before .before .before .before in
+    let at-update-kind = at-push-child .before .before .before .before .before .before .before .before .before .before in
+    let at-it2 = at-update-kind .before .before .before .before .before in
+    let at-try-parse-ident = at-it2 .before .before .before .before .before .before .before .before in
+    let at-open-from = at-try-parse-ident .before .before .before .before .before .before .before .before .before .before in
+    then (at-open-from .open-from .ensures) (then (rw (at-it2 .it2 .given .1) at (at-try-parse-ident .try-parse-ident .ensures))
+    (then (at-update-kind .update-kind .ensures) (at-push-child .push-child .ensures)))
 
 pub fallback-arm-spec : {M : Type 1} → statement M
 fallback-arm-spec =

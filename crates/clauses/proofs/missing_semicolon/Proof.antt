@@ -7,16 +7,24 @@ emit-before-requires : tie.Need-emit-before-requires
 emit-before-requires c κs = search needs
 
 same-length : tie.Need-same-length
-same-length c = c .before .before .before .before .before .before .emit-before .kept .1 .1 .1 .1 .0
+same-length c =
+    let at-emit-before = c .before .before .before .before .before .before in
+    at-emit-before .emit-before .kept .1 .1 .1 .1 .0
 
 same-length-2 : tie.Need-same-length-2
-same-length-2 c = c .before .before .before .before .before .before .emit-before .kept .1 .1 .1 .1 .1 .0
+same-length-2 c =
+    let at-emit-before = c .before .before .before .before .before .before in
+    at-emit-before .emit-before .kept .1 .1 .1 .1 .1 .0
 
 same-length-3 : tie.Need-same-length-3
-same-length-3 c = c .before .before .before .before .before .before .emit-before .kept .1 .1 .1 .1 .1 .1 .0
+same-length-3 c =
+    let at-emit-before = c .before .before .before .before .before .before in
+    at-emit-before .emit-before .kept .1 .1 .1 .1 .1 .1 .0
 
 returns : tie.Need-returns
-returns c = c .before .before .before .before .before .before .emit-before .ensures
+returns c =
+    let at-emit-before = c .before .before .before .before .before .before in
+    at-emit-before .emit-before .ensures
 
 pub missing-semicolon-spec : {M : Type 1} → statement M
 missing-semicolon-spec =

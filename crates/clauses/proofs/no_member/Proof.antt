@@ -28,17 +28,54 @@ push-child-requires : tie.Need-push-child-requires
 push-child-requires c κs = search needs
 
 same-length : tie.Need-same-length
-same-length c = c .before .before .before .before .before .before .push-child .kept .1 .1 .1 .1 .0 ∙ c .before .before .before .before .before .before .before .before .before .before .before .before .before .before .before .before .close-node .kept .1 .1 .1 .1 .0 ∙ c .before .before .before .before .before .before .before .before .before .before .before .before .before .before .before .before .before .before .before .before .before .before .before .before .before .before .skip-until-recovery-token .kept .1 .1 .1 .1 .0 ∙ c .before .before .before .before .before .before .before .before .before .before .before .before .before .before .before .before .before .before .before .before .before .before .before .before .before .before .before .before .before .before .before .before .before .before .before .before .before .pass .kept .1 .1 .1 .1 .0 ∙ c .before .before .before .before .before .before .before .before .before .before .before .before .before .before .before .before .before .before .before .before .before .before .before .before .before .before .before .before .before .before .before .before .before .before .before .before .before .before .before .before .before .before .before .before .before .before .before .open-here .kept .1 .1 .1 .1 .0 ∙ c .before .before .before .before .before .before .before .before .before .before .before .before .before .before .before .before .before .before .before .before .before .before .before .before .before .before .before .before .before .before .before .before .before .before .before .before .before .before .before .before .before .before .before .before .before .before .before .before .before .before .before .before .before .before .before .before .before .emit-unexpected .kept .1 .1 .1 .1 .0
+same-length c =
+    let at-push-child = c .before .before .before .before .before .before in
+    let at-close-node = at-push-child .before .before .before .before .before .before .before .before .before .before in
+    let at-skip-until-recovery-token = at-close-node .before .before .before .before .before .before .before .before .before .before in
+    let at-pass = at-skip-until-recovery-token .before .before .before .before .before .before .before .before .before .before .before in
+    let at-open-here = at-pass .before .before .before .before .before .before .before .before .before .before in
+    let at-emit-unexpected = at-open-here .before .before .before .before .before .before .before .before .before .before in
+    at-push-child .push-child .kept .1 .1 .1 .1 .0 ∙ at-close-node .close-node .kept .1 .1 .1 .1 .0
+    ∙ at-skip-until-recovery-token .skip-until-recovery-token .kept .1 .1 .1 .1 .0 ∙ at-pass .pass .kept .1 .1 .1 .1 .0
+    ∙ at-open-here .open-here .kept .1 .1 .1 .1 .0 ∙ at-emit-unexpected .emit-unexpected .kept .1 .1 .1 .1 .0
 
 same-length-2 : tie.Need-same-length-2
-same-length-2 c = c .before .before .before .before .before .before .push-child .kept .1 .1 .1 .1 .1 .0 ∙ c .before .before .before .before .before .before .before .before .before .before .before .before .before .before .before .before .close-node .kept .1 .1 .1 .1 .1 .0 ∙ c .before .before .before .before .before .before .before .before .before .before .before .before .before .before .before .before .before .before .before .before .before .before .before .before .before .before .skip-until-recovery-token .kept .1 .1 .1 .1 .1 .0 ∙ c .before .before .before .before .before .before .before .before .before .before .before .before .before .before .before .before .before .before .before .before .before .before .before .before .before .before .before .before .before .before .before .before .before .before .before .before .before .pass .kept .1 .1 .1 .1 .1 .0 ∙ c .before .before .before .before .before .before .before .before .before .before .before .before .before .before .before .before .before .before .before .before .before .before .before .before .before .before .before .before .before .before .before .before .before .before .before .before .before .before .before .before .before .before .before .before .before .before .before .open-here .kept .1 .1 .1 .1 .1 .0 ∙ c .before .before .before .before .before .before .before .before .before .before .before .before .before .before .before .before .before .before .before .before .before .before .before .before .before .before .before .before .before .before .before .before .before .before .before .before .before .before .before .before .before .before .before .before .before .before .before .before .before .before .before .before .before .before .before .before .before .emit-unexpected .kept .1 .1 .1 .1 .1 .0
+same-length-2 c =
+    let at-push-child = c .before .before .before .before .before .before in
+    let at-close-node = at-push-child .before .before .before .before .before .before .before .before .before .before in
+    let at-skip-until-recovery-token = at-close-node .before .before .before .before .before .before .before .before .before .before in
+    let at-pass = at-skip-until-recovery-token .before .before .before .before .before .before .before .before .before .before .before in
+    let at-open-here = at-pass .before .before .before .before .before .before .before .before .before .before in
+    let at-emit-unexpected = at-open-here .before .before .before .before .before .before .before .before .before .before in
+    at-push-child .push-child .kept .1 .1 .1 .1 .1 .0 ∙ at-close-node .close-node .kept .1 .1 .1 .1 .1 .0
+    ∙ at-skip-until-recovery-token .skip-until-recovery-token .kept .1 .1 .1 .1 .1 .0 ∙ at-pass .pass .kept .1 .1 .1 .1 .1 .0
+    ∙ at-open-here .open-here .kept .1 .1 .1 .1 .1 .0 ∙ at-emit-unexpected .emit-unexpected .kept .1 .1 .1 .1 .1 .0
 
 same-length-3 : tie.Need-same-length-3
-same-length-3 c = c .before .before .before .before .before .before .push-child .kept .1 .1 .1 .1 .1 .1 .0 ∙ c .before .before .before .before .before .before .before .before .before .before .before .before .before .before .before .before .close-node .kept .1 .1 .1 .1 .1 .1 .0 ∙ c .before .before .before .before .before .before .before .before .before .before .before .before .before .before .before .before .before .before .before .before .before .before .before .before .before .before .skip-until-recovery-token .kept .1 .1 .1 .1 .1 .1 .0 ∙ c .before .before .before .before .before .before .before .before .before .before .before .before .before .before .before .before .before .before .before .before .before .before .before .before .before .before .before .before .before .before .before .before .before .before .before .before .before .pass .kept .1 .1 .1 .1 .1 .1 .0 ∙ c .before .before .before .before .before .before .before .before .before .before .before .before .before .before .before .before .before .before .before .before .before .before .before .before .before .before .before .before .before .before .before .before .before .before .before .before .before .before .before .before .before .before .before .before .before .before .before .open-here .kept .1 .1 .1 .1 .1 .1 .0 ∙ c .before .before .before .before .before .before .before .before .before .before .before .before .before .before .before .before .before .before .before .before .before .before .before .before .before .before .before .before .before .before .before .before .before .before .before .before .before .before .before .before .before .before .before .before .before .before .before .before .before .before .before .before .before .before .before .before .before .emit-unexpected .kept .1 .1 .1 .1 .1 .1 .0
+same-length-3 c =
+    let at-push-child = c .before .before .before .before .before .before in
+    let at-close-node = at-push-child .before .before .before .before .before .before .before .before .before .before in
+    let at-skip-until-recovery-token = at-close-node .before .before .before .before .before .before .before .before .before .before in
+    let at-pass = at-skip-until-recovery-token .before .before .before .before .before .before .before .before .before .before .before in
+    let at-open-here = at-pass .before .before .before .before .before .before .before .before .before .before in
+    let at-emit-unexpected = at-open-here .before .before .before .before .before .before .before .before .before .before in
+    at-push-child .push-child .kept .1 .1 .1 .1 .1 .1 .0 ∙ at-close-node .close-node .kept .1 .1 .1 .1 .1 .1 .0
+    ∙ at-skip-until-recovery-token .skip-until-recovery-token .kept .1 .1 .1 .1 .1 .1 .0 ∙ at-pass .pass .kept .1 .1 .1 .1 .1 .1 .0
+    ∙ at-open-here .open-here .kept .1 .1 .1 .1 .1 .1 .0 ∙ at-emit-unexpected .emit-unexpected .kept .1 .1 .1 .1 .1 .1 .0
 
 returns : tie.Need-returns
 unfolding noMemberTurn
-returns c = then (c .before .before .before .before .before .before .before .before .before .before .before .before .before .before .before .before .before .before .before .before .before .before .before .before .before .before .before .before .before .before .before .before .before .before .before .before .before .before .before .before .before .before .before .before .before .before .before .before .before .before .before .before .before .before .before .before .before .emit-unexpected .ensures) (then (c .before .before .before .before .before .before .before .before .before .before .before .before .before .before .before .before .before .before .before .before .before .before .before .before .before .before .before .before .before .before .before .before .before .before .before .before .before .before .before .before .before .before .before .before .before .before .before .open-here .ensures) (then (c .before .before .before .before .before .before .before .before .before .before .before .before .before .before .before .before .before .before .before .before .before .before .before .before .before .before .before .before .before .before .before .before .before .before .before .before .before .pass .ensures) (then (c .before .before .before .before .before .before .before .before .before .before .before .before .before .before .before .before .before .before .before .before .before .before .before .before .before .before .skip-until-recovery-token .ensures) (then (c .before .before .before .before .before .before .before .before .before .before .before .before .before .before .before .before .close-node .ensures) (then (c .before .before .before .before .before .before .push-child .ensures) gives)))))
+returns c =
+    let at-push-child = c .before .before .before .before .before .before in
+    let at-close-node = at-push-child .before .before .before .before .before .before .before .before .before .before in
+    let at-skip-until-recovery-token = at-close-node .before .before .before .before .before .before .before .before .before .before in
+    let at-pass = at-skip-until-recovery-token .before .before .before .before .before .before .before .before .before .before .before in
+    let at-open-here = at-pass .before .before .before .before .before .before .before .before .before .before in
+    let at-emit-unexpected = at-open-here .before .before .before .before .before .before .before .before .before .before in
+    then (at-emit-unexpected .emit-unexpected .ensures)
+    (then (at-open-here .open-here .ensures) (then (at-pass .pass .ensures)
+    (then (at-skip-until-recovery-token .skip-until-recovery-token .ensures)
+    (then (at-close-node .close-node .ensures) (then (at-push-child .push-child .ensures) gives)))))
 
 pub no-member-spec : {M : Type 1} → statement M
 no-member-spec =

@@ -15,16 +15,29 @@ either-requires : tie.Need-either-requires
 either-requires c κs = search needs
 
 same-length : tie.Need-same-length
-same-length c = c .before .before .before .before .before .before .before .before .check2 .kept .1 .1 .1 .1 .0 ∙ c .before .before .before .before .before .before .before .before .before .before .before .before .before .before .before .before .before .before .check .kept .1 .1 .1 .1 .0
+same-length c =
+    let at-check2 = c .before .before .before .before .before .before .before .before in
+    let at-check = at-check2 .before .before .before .before .before .before .before .before .before .before in
+    at-check2 .check2 .kept .1 .1 .1 .1 .0 ∙ at-check .check .kept .1 .1 .1 .1 .0
 
 same-length-2 : tie.Need-same-length-2
-same-length-2 c = c .before .before .before .before .before .before .before .before .check2 .kept .1 .1 .1 .1 .1 .0 ∙ c .before .before .before .before .before .before .before .before .before .before .before .before .before .before .before .before .before .before .check .kept .1 .1 .1 .1 .1 .0
+same-length-2 c =
+    let at-check2 = c .before .before .before .before .before .before .before .before in
+    let at-check = at-check2 .before .before .before .before .before .before .before .before .before .before in
+    at-check2 .check2 .kept .1 .1 .1 .1 .1 .0 ∙ at-check .check .kept .1 .1 .1 .1 .1 .0
 
 same-length-3 : tie.Need-same-length-3
-same-length-3 c = c .before .before .before .before .before .before .before .before .check2 .kept .1 .1 .1 .1 .1 .1 .0 ∙ c .before .before .before .before .before .before .before .before .before .before .before .before .before .before .before .before .before .before .check .kept .1 .1 .1 .1 .1 .1 .0
+same-length-3 c =
+    let at-check2 = c .before .before .before .before .before .before .before .before in
+    let at-check = at-check2 .before .before .before .before .before .before .before .before .before .before in
+    at-check2 .check2 .kept .1 .1 .1 .1 .1 .1 .0 ∙ at-check .check .kept .1 .1 .1 .1 .1 .1 .0
 
 returns : tie.Need-returns
-returns c = then (c .before .before .before .before .before .before .before .before .before .before .before .before .before .before .before .before .before .before .check .ensures) (then (c .before .before .before .before .before .before .before .before .check2 .ensures) (rw (c .before .either .ensures) gives))
+returns c =
+    let at-either = c .before in
+    let at-check2 = at-either .before .before .before .before .before .before .before in
+    let at-check = at-check2 .before .before .before .before .before .before .before .before .before .before in
+    then (at-check .check .ensures) (then (at-check2 .check2 .ensures) (rw (at-either .either .ensures) gives))
 
 pub one-of-spec : {M : Type 1} → statement M
 one-of-spec =

@@ -14,17 +14,30 @@ comptime-parameter-requires : tie.Need-comptime-parameter-requires
 comptime-parameter-requires c κs = search needs
 
 same-length : tie.Need-same-length
-same-length c = c .before .before .before .before .before .before .comptime-parameter .kept .1 .1 .1 .1 .0 ∙ c .before .before .before .before .before .before .before .before .before .before .before .before .before .before .before .before .before .eat .kept .1 .1 .1 .1 .0
+same-length c =
+    let at-comptime-parameter = c .before .before .before .before .before .before in
+    let at-eat = at-comptime-parameter .before .before .before .before .before .before .before .before .before .before .before in
+    at-comptime-parameter .comptime-parameter .kept .1 .1 .1 .1 .0 ∙ at-eat .eat .kept .1 .1 .1 .1 .0
 
 same-length-2 : tie.Need-same-length-2
-same-length-2 c = c .before .before .before .before .before .before .comptime-parameter .kept .1 .1 .1 .1 .1 .0 ∙ c .before .before .before .before .before .before .before .before .before .before .before .before .before .before .before .before .before .eat .kept .1 .1 .1 .1 .1 .0
+same-length-2 c =
+    let at-comptime-parameter = c .before .before .before .before .before .before in
+    let at-eat = at-comptime-parameter .before .before .before .before .before .before .before .before .before .before .before in
+    at-comptime-parameter .comptime-parameter .kept .1 .1 .1 .1 .1 .0 ∙ at-eat .eat .kept .1 .1 .1 .1 .1 .0
 
 same-length-3 : tie.Need-same-length-3
-same-length-3 c = c .before .before .before .before .before .before .comptime-parameter .kept .1 .1 .1 .1 .1 .1 .0 ∙ c .before .before .before .before .before .before .before .before .before .before .before .before .before .before .before .before .before .eat .kept .1 .1 .1 .1 .1 .1 .0
+same-length-3 c =
+    let at-comptime-parameter = c .before .before .before .before .before .before in
+    let at-eat = at-comptime-parameter .before .before .before .before .before .before .before .before .before .before .before in
+    at-comptime-parameter .comptime-parameter .kept .1 .1 .1 .1 .1 .1 .0 ∙ at-eat .eat .kept .1 .1 .1 .1 .1 .1 .0
 
 returns : tie.Need-returns
 unfolding parameterName
-returns c = then position-is (then (c .before .before .before .before .before .before .before .before .before .before .before .before .before .before .before .before .before .eat .ensures) (when-true (c .before .before .before .before .before .before .before .before .before .before .if1 .taken) (c .before .before .before .before .before .before .comptime-parameter .ensures)))
+returns c =
+    let at-comptime-parameter = c .before .before .before .before .before .before in
+    let at-if1 = at-comptime-parameter .before .before .before .before in
+    let at-eat = at-if1 .before .before .before .before .before .before .before in
+    then position-is (then (at-eat .eat .ensures) (when-true (at-if1 .if1 .taken) (at-comptime-parameter .comptime-parameter .ensures)))
 
 eat-requires-2 : tie.Need-eat-requires-2
 eat-requires-2 c κs = search needs
@@ -33,30 +46,62 @@ plain-parameter-requires : tie.Need-plain-parameter-requires
 plain-parameter-requires c κs = search needs
 
 same-length-4 : tie.Need-same-length-4
-same-length-4 c = c .before .before .before .before .before .before .plain-parameter .kept .1 .1 .1 .1 .0 ∙ c .before .before .before .before .before .before .before .before .before .before .before .before .before .before .before .before .before .before .eat2 .kept .1 .1 .1 .1 .0 ∙ c .before .before .before .before .before .before .before .before .before .before .before .before .before .before .before .before .before .before .before .before .before .before .before .before .before .before .before .before .before .eat .kept .1 .1 .1 .1 .0
+same-length-4 c =
+    let at-plain-parameter = c .before .before .before .before .before .before in
+    let at-eat2 = at-plain-parameter .before .before .before .before .before .before .before .before .before .before .before .before in
+    let at-eat = at-eat2 .before .before .before .before .before .before .before .before .before .before .before in
+    at-plain-parameter .plain-parameter .kept .1 .1 .1 .1 .0 ∙ at-eat2 .eat2 .kept .1 .1 .1 .1 .0 ∙ at-eat .eat .kept .1 .1 .1 .1 .0
 
 same-length-5 : tie.Need-same-length-5
-same-length-5 c = c .before .before .before .before .before .before .plain-parameter .kept .1 .1 .1 .1 .1 .0 ∙ c .before .before .before .before .before .before .before .before .before .before .before .before .before .before .before .before .before .before .eat2 .kept .1 .1 .1 .1 .1 .0 ∙ c .before .before .before .before .before .before .before .before .before .before .before .before .before .before .before .before .before .before .before .before .before .before .before .before .before .before .before .before .before .eat .kept .1 .1 .1 .1 .1 .0
+same-length-5 c =
+    let at-plain-parameter = c .before .before .before .before .before .before in
+    let at-eat2 = at-plain-parameter .before .before .before .before .before .before .before .before .before .before .before .before in
+    let at-eat = at-eat2 .before .before .before .before .before .before .before .before .before .before .before in
+    at-plain-parameter .plain-parameter .kept .1 .1 .1 .1 .1 .0 ∙ at-eat2 .eat2 .kept .1 .1 .1 .1 .1 .0 ∙ at-eat .eat .kept .1 .1 .1 .1 .1 .0
 
 same-length-6 : tie.Need-same-length-6
-same-length-6 c = c .before .before .before .before .before .before .plain-parameter .kept .1 .1 .1 .1 .1 .1 .0 ∙ c .before .before .before .before .before .before .before .before .before .before .before .before .before .before .before .before .before .before .eat2 .kept .1 .1 .1 .1 .1 .1 .0 ∙ c .before .before .before .before .before .before .before .before .before .before .before .before .before .before .before .before .before .before .before .before .before .before .before .before .before .before .before .before .before .eat .kept .1 .1 .1 .1 .1 .1 .0
+same-length-6 c =
+    let at-plain-parameter = c .before .before .before .before .before .before in
+    let at-eat2 = at-plain-parameter .before .before .before .before .before .before .before .before .before .before .before .before in
+    let at-eat = at-eat2 .before .before .before .before .before .before .before .before .before .before .before in
+    at-plain-parameter .plain-parameter .kept .1 .1 .1 .1 .1 .1 .0 ∙ at-eat2 .eat2 .kept .1 .1 .1 .1 .1 .1 .0 ∙ at-eat .eat .kept .1 .1 .1 .1 .1 .1 .0
 
 returns-2 : tie.Need-returns-2
 unfolding parameterName
-returns-2 c = then position-is (then (c .before .before .before .before .before .before .before .before .before .before .before .before .before .before .before .before .before .before .before .before .before .before .before .before .before .before .before .before .before .eat .ensures) (when-false (c .before .before .before .before .before .before .before .before .before .before .before .before .before .before .before .before .before .before .before .before .before .before .if1 .left) (then (c .before .before .before .before .before .before .before .before .before .before .before .before .before .before .before .before .before .before .eat2 .ensures) (when-true (c .before .before .before .before .before .before .before .before .before .before .if2 .taken) (c .before .before .before .before .before .before .plain-parameter .ensures)))))
+returns-2 c =
+    let at-plain-parameter = c .before .before .before .before .before .before in
+    let at-if2 = at-plain-parameter .before .before .before .before in
+    let at-eat2 = at-if2 .before .before .before .before .before .before .before .before in
+    let at-if1 = at-eat2 .before .before .before .before in
+    let at-eat = at-if1 .before .before .before .before .before .before .before in
+    then position-is (then (at-eat .eat .ensures) (when-false (at-if1 .if1 .left)
+    (then (at-eat2 .eat2 .ensures) (when-true (at-if2 .if2 .taken) (at-plain-parameter .plain-parameter .ensures)))))
 
 same-length-7 : tie.Need-same-length-7
-same-length-7 c = c .before .before .before .before .before .before .before .before .eat2 .kept .1 .1 .1 .1 .0 ∙ c .before .before .before .before .before .before .before .before .before .before .before .before .before .before .before .before .before .before .before .eat .kept .1 .1 .1 .1 .0
+same-length-7 c =
+    let at-eat2 = c .before .before .before .before .before .before .before .before in
+    let at-eat = at-eat2 .before .before .before .before .before .before .before .before .before .before .before in
+    at-eat2 .eat2 .kept .1 .1 .1 .1 .0 ∙ at-eat .eat .kept .1 .1 .1 .1 .0
 
 same-length-8 : tie.Need-same-length-8
-same-length-8 c = c .before .before .before .before .before .before .before .before .eat2 .kept .1 .1 .1 .1 .1 .0 ∙ c .before .before .before .before .before .before .before .before .before .before .before .before .before .before .before .before .before .before .before .eat .kept .1 .1 .1 .1 .1 .0
+same-length-8 c =
+    let at-eat2 = c .before .before .before .before .before .before .before .before in
+    let at-eat = at-eat2 .before .before .before .before .before .before .before .before .before .before .before in
+    at-eat2 .eat2 .kept .1 .1 .1 .1 .1 .0 ∙ at-eat .eat .kept .1 .1 .1 .1 .1 .0
 
 same-length-9 : tie.Need-same-length-9
-same-length-9 c = c .before .before .before .before .before .before .before .before .eat2 .kept .1 .1 .1 .1 .1 .1 .0 ∙ c .before .before .before .before .before .before .before .before .before .before .before .before .before .before .before .before .before .before .before .eat .kept .1 .1 .1 .1 .1 .1 .0
+same-length-9 c =
+    let at-eat2 = c .before .before .before .before .before .before .before .before in
+    let at-eat = at-eat2 .before .before .before .before .before .before .before .before .before .before .before in
+    at-eat2 .eat2 .kept .1 .1 .1 .1 .1 .1 .0 ∙ at-eat .eat .kept .1 .1 .1 .1 .1 .1 .0
 
 returns-3 : tie.Need-returns-3
 unfolding parameterName
-returns-3 c = then position-is (then (c .before .before .before .before .before .before .before .before .before .before .before .before .before .before .before .before .before .before .before .eat .ensures) (when-false (c .before .before .before .before .before .before .before .before .before .before .before .before .if1 .left) (then (c .before .before .before .before .before .before .before .before .eat2 .ensures) (when-false (c .if2 .left) gives))))
+returns-3 c =
+    let at-eat2 = c .before .before .before .before .before .before .before .before in
+    let at-if1 = at-eat2 .before .before .before .before in
+    let at-eat = at-if1 .before .before .before .before .before .before .before in
+    then position-is (then (at-eat .eat .ensures) (when-false (at-if1 .if1 .left) (then (at-eat2 .eat2 .ensures) (when-false (c .if2 .left) gives))))
 
 pub parameter-name-spec : {M : Type 1} → statement M
 parameter-name-spec =

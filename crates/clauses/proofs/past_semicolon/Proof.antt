@@ -14,28 +14,50 @@ pass-requires : tie.Need-pass-requires
 pass-requires c κs = search needs
 
 same-length : tie.Need-same-length
-same-length c = c .before .before .before .before .before .before .pass .kept .1 .1 .1 .1 .0 ∙ c .before .before .before .before .before .before .before .before .before .before .before .before .before .before .before .before .before .before .peek .kept .1 .1 .1 .1 .0
+same-length c =
+    let at-pass = c .before .before .before .before .before .before in
+    let at-peek = at-pass .before .before .before .before .before .before .before .before .before .before .before .before in
+    at-pass .pass .kept .1 .1 .1 .1 .0 ∙ at-peek .peek .kept .1 .1 .1 .1 .0
 
 same-length-2 : tie.Need-same-length-2
-same-length-2 c = c .before .before .before .before .before .before .pass .kept .1 .1 .1 .1 .1 .0 ∙ c .before .before .before .before .before .before .before .before .before .before .before .before .before .before .before .before .before .before .peek .kept .1 .1 .1 .1 .1 .0
+same-length-2 c =
+    let at-pass = c .before .before .before .before .before .before in
+    let at-peek = at-pass .before .before .before .before .before .before .before .before .before .before .before .before in
+    at-pass .pass .kept .1 .1 .1 .1 .1 .0 ∙ at-peek .peek .kept .1 .1 .1 .1 .1 .0
 
 same-length-3 : tie.Need-same-length-3
-same-length-3 c = c .before .before .before .before .before .before .pass .kept .1 .1 .1 .1 .1 .1 .0 ∙ c .before .before .before .before .before .before .before .before .before .before .before .before .before .before .before .before .before .before .peek .kept .1 .1 .1 .1 .1 .1 .0
+same-length-3 c =
+    let at-pass = c .before .before .before .before .before .before in
+    let at-peek = at-pass .before .before .before .before .before .before .before .before .before .before .before .before in
+    at-pass .pass .kept .1 .1 .1 .1 .1 .1 .0 ∙ at-peek .peek .kept .1 .1 .1 .1 .1 .1 .0
 
 returns : tie.Need-returns
-returns c = then (c .before .before .before .before .before .before .before .before .before .before .before .before .before .before .before .before .before .before .peek .ensures) (when-true (eq-eqb (c .before .before .before .before .before .before .before .before .before .before .before .before .before .before .before .before .before .before .peek .result .it) Token.Semicolon (c .before .before .before .before .before .before .before .before .before .before .if1 .taken)) (c .before .before .before .before .before .before .pass .ensures))
+returns c =
+    let at-pass = c .before .before .before .before .before .before in
+    let at-if1 = at-pass .before .before .before .before in
+    let at-peek = at-if1 .before .before .before .before .before .before .before .before in
+    then (at-peek .peek .ensures) (when-true (eq-eqb (at-peek .peek .result .it) Token.Semicolon (at-if1 .if1 .taken)) (at-pass .pass .ensures))
 
 same-length-4 : tie.Need-same-length-4
-same-length-4 c = c .before .before .before .before .before .before .before .before .before .peek .kept .1 .1 .1 .1 .0
+same-length-4 c =
+    let at-peek = c .before .before .before .before .before .before .before .before .before in
+    at-peek .peek .kept .1 .1 .1 .1 .0
 
 same-length-5 : tie.Need-same-length-5
-same-length-5 c = c .before .before .before .before .before .before .before .before .before .peek .kept .1 .1 .1 .1 .1 .0
+same-length-5 c =
+    let at-peek = c .before .before .before .before .before .before .before .before .before in
+    at-peek .peek .kept .1 .1 .1 .1 .1 .0
 
 same-length-6 : tie.Need-same-length-6
-same-length-6 c = c .before .before .before .before .before .before .before .before .before .peek .kept .1 .1 .1 .1 .1 .1 .0
+same-length-6 c =
+    let at-peek = c .before .before .before .before .before .before .before .before .before in
+    at-peek .peek .kept .1 .1 .1 .1 .1 .1 .0
 
 returns-2 : tie.Need-returns-2
-returns-2 c = then (c .before .before .before .before .before .before .before .before .before .peek .ensures) (when-false (ne-eqb (c .before .before .before .before .before .before .before .before .before .peek .result .it) Token.Semicolon (c .before .if1 .left)) gives)
+returns-2 c =
+    let at-if1 = c .before in
+    let at-peek = at-if1 .before .before .before .before .before .before .before .before in
+    then (at-peek .peek .ensures) (when-false (ne-eqb (at-peek .peek .result .it) Token.Semicolon (at-if1 .if1 .left)) gives)
 
 pub past-semicolon-spec : {M : Type 1} → statement M
 past-semicolon-spec =

@@ -21,16 +21,38 @@ push-child-requires : tie.Need-push-child-requires
 push-child-requires c κs = search needs
 
 same-length : tie.Need-same-length
-same-length c = c .before .before .before .before .before .before .before .before .push-child .kept .1 .1 .1 .1 .0 ∙ c .before .before .before .before .before .before .before .before .before .before .before .before .before .before .before .before .before .before .alloc-last-token-as-node .kept .1 .1 .1 .1 .0 ∙ c .before .before .before .before .before .before .before .before .before .before .before .before .before .before .before .before .before .before .before .before .before .before .before .before .before .before .before .before .before .open-from .kept .1 .1 .1 .1 .0
+same-length c =
+    let at-push-child = c .before .before .before .before .before .before .before .before in
+    let at-alloc-last-token-as-node = at-push-child .before .before .before .before .before .before .before .before .before .before in
+    let at-open-from = at-alloc-last-token-as-node .before .before .before .before .before .before .before .before .before .before .before in
+    at-push-child .push-child .kept .1 .1 .1 .1 .0 ∙ at-alloc-last-token-as-node .alloc-last-token-as-node .kept .1 .1 .1 .1 .0
+    ∙ at-open-from .open-from .kept .1 .1 .1 .1 .0
 
 same-length-2 : tie.Need-same-length-2
-same-length-2 c = c .before .before .before .before .before .before .before .before .push-child .kept .1 .1 .1 .1 .1 .0 ∙ c .before .before .before .before .before .before .before .before .before .before .before .before .before .before .before .before .before .before .alloc-last-token-as-node .kept .1 .1 .1 .1 .1 .0 ∙ c .before .before .before .before .before .before .before .before .before .before .before .before .before .before .before .before .before .before .before .before .before .before .before .before .before .before .before .before .before .open-from .kept .1 .1 .1 .1 .1 .0
+same-length-2 c =
+    let at-push-child = c .before .before .before .before .before .before .before .before in
+    let at-alloc-last-token-as-node = at-push-child .before .before .before .before .before .before .before .before .before .before in
+    let at-open-from = at-alloc-last-token-as-node .before .before .before .before .before .before .before .before .before .before .before in
+    at-push-child .push-child .kept .1 .1 .1 .1 .1 .0 ∙ at-alloc-last-token-as-node .alloc-last-token-as-node .kept .1 .1 .1 .1 .1 .0
+    ∙ at-open-from .open-from .kept .1 .1 .1 .1 .1 .0
 
 same-length-3 : tie.Need-same-length-3
-same-length-3 c = c .before .before .before .before .before .before .before .before .push-child .kept .1 .1 .1 .1 .1 .1 .0 ∙ c .before .before .before .before .before .before .before .before .before .before .before .before .before .before .before .before .before .before .alloc-last-token-as-node .kept .1 .1 .1 .1 .1 .1 .0 ∙ c .before .before .before .before .before .before .before .before .before .before .before .before .before .before .before .before .before .before .before .before .before .before .before .before .before .before .before .before .before .open-from .kept .1 .1 .1 .1 .1 .1 .0
+same-length-3 c =
+    let at-push-child = c .before .before .before .before .before .before .before .before in
+    let at-alloc-last-token-as-node = at-push-child .before .before .before .before .before .before .before .before .before .before in
+    let at-open-from = at-alloc-last-token-as-node .before .before .before .before .before .before .before .before .before .before .before in
+    at-push-child .push-child .kept .1 .1 .1 .1 .1 .1 .0 ∙ at-alloc-last-token-as-node .alloc-last-token-as-node .kept .1 .1 .1 .1 .1 .1 .0
+    ∙ at-open-from .open-from .kept .1 .1 .1 .1 .1 .1 .0
 
 returns : tie.Need-returns
-returns c = then (c .before .before .before .before .before .before .before .before .before .before .before .before .before .before .before .before .before .before .before .before .before .before .before .before .before .before .before .before .before .open-from .ensures) (then intern-is (then (last-cut Node.Identifier _ (c .before .before .before .before .before .before .before .before .before .before .before .before .before .before .before .before .before .before .before .before .before .before .intern .ensures) (c .before .before .before .before .before .before .before .before .before .before .before .before .before .before .before .before .before .before .alloc-last-token-as-node .ensures)) (then (c .before .before .before .before .before .before .before .before .push-child .ensures) gives)))
+returns c =
+    let at-push-child = c .before .before .before .before .before .before .before .before in
+    let at-alloc-last-token-as-node = at-push-child .before .before .before .before .before .before .before .before .before .before in
+    let at-intern = at-alloc-last-token-as-node .before .before .before .before in
+    let at-open-from = at-intern .before .before .before .before .before .before .before in
+    then (at-open-from .open-from .ensures) (then intern-is
+    (then (last-cut Node.Identifier _ (at-intern .intern .ensures) (at-alloc-last-token-as-node .alloc-last-token-as-node .ensures))
+    (then (at-push-child .push-child .ensures) gives)))
 
 pub plain-parameter-spec : {M : Type 1} → statement M
 plain-parameter-spec =

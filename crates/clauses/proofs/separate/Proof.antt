@@ -15,16 +15,26 @@ contains-requires : tie.Need-contains-requires
 contains-requires c κs = search needs
 
 same-length : tie.Need-same-length
-same-length c = c .before .before .before .before .before .before .before .before .before .before .peek .kept .1 .1 .1 .1 .0
+same-length c =
+    let at-peek = c .before .before .before .before .before .before .before .before .before .before in
+    at-peek .peek .kept .1 .1 .1 .1 .0
 
 same-length-2 : tie.Need-same-length-2
-same-length-2 c = c .before .before .before .before .before .before .before .before .before .before .peek .kept .1 .1 .1 .1 .1 .0
+same-length-2 c =
+    let at-peek = c .before .before .before .before .before .before .before .before .before .before in
+    at-peek .peek .kept .1 .1 .1 .1 .1 .0
 
 same-length-3 : tie.Need-same-length-3
-same-length-3 c = c .before .before .before .before .before .before .before .before .before .before .peek .kept .1 .1 .1 .1 .1 .1 .0
+same-length-3 c =
+    let at-peek = c .before .before .before .before .before .before .before .before .before .before in
+    at-peek .peek .kept .1 .1 .1 .1 .1 .1 .0
 
 returns : tie.Need-returns
-returns c = then (c .before .before .before .before .before .before .before .before .before .before .peek .ensures) (when-true (sym (c .before .before .contains .ensures) ∙ c .before .if1 .taken) gives)
+returns c =
+    let at-if1 = c .before in
+    let at-contains = at-if1 .before in
+    let at-peek = at-contains .before .before .before .before .before .before .before .before in
+    then (at-peek .peek .ensures) (when-true (sym (at-contains .contains .ensures) ∙ at-if1 .if1 .taken) gives)
 
 slice-aggregate-expect-check-recovery : tie.Need-slice-aggregate-expect-check-recovery
 slice-aggregate-expect-check-recovery c = search needs
@@ -33,16 +43,31 @@ expect-check-recovery-requires : tie.Need-expect-check-recovery-requires
 expect-check-recovery-requires c κs = search needs
 
 same-length-4 : tie.Need-same-length-4
-same-length-4 c = c .before .before .before .before .before .before .before .expect-check-recovery .kept .1 .1 .1 .1 .0 ∙ c .before .before .before .before .before .before .before .before .before .before .before .before .before .before .before .before .before .before .before .before .before .peek .kept .1 .1 .1 .1 .0
+same-length-4 c =
+    let at-expect-check-recovery = c .before .before .before .before .before .before .before in
+    let at-peek = at-expect-check-recovery .before .before .before .before .before .before .before .before .before .before .before .before .before .before in
+    at-expect-check-recovery .expect-check-recovery .kept .1 .1 .1 .1 .0 ∙ at-peek .peek .kept .1 .1 .1 .1 .0
 
 same-length-5 : tie.Need-same-length-5
-same-length-5 c = c .before .before .before .before .before .before .before .expect-check-recovery .kept .1 .1 .1 .1 .1 .0 ∙ c .before .before .before .before .before .before .before .before .before .before .before .before .before .before .before .before .before .before .before .before .before .peek .kept .1 .1 .1 .1 .1 .0
+same-length-5 c =
+    let at-expect-check-recovery = c .before .before .before .before .before .before .before in
+    let at-peek = at-expect-check-recovery .before .before .before .before .before .before .before .before .before .before .before .before .before .before in
+    at-expect-check-recovery .expect-check-recovery .kept .1 .1 .1 .1 .1 .0 ∙ at-peek .peek .kept .1 .1 .1 .1 .1 .0
 
 same-length-6 : tie.Need-same-length-6
-same-length-6 c = c .before .before .before .before .before .before .before .expect-check-recovery .kept .1 .1 .1 .1 .1 .1 .0 ∙ c .before .before .before .before .before .before .before .before .before .before .before .before .before .before .before .before .before .before .before .before .before .peek .kept .1 .1 .1 .1 .1 .1 .0
+same-length-6 c =
+    let at-expect-check-recovery = c .before .before .before .before .before .before .before in
+    let at-peek = at-expect-check-recovery .before .before .before .before .before .before .before .before .before .before .before .before .before .before in
+    at-expect-check-recovery .expect-check-recovery .kept .1 .1 .1 .1 .1 .1 .0 ∙ at-peek .peek .kept .1 .1 .1 .1 .1 .1 .0
 
 returns-2 : tie.Need-returns-2
-returns-2 c = then (c .before .before .before .before .before .before .before .before .before .before .before .before .before .before .before .before .before .before .before .before .before .peek .ensures) (when-false (sym (c .before .before .before .before .before .before .before .before .before .before .before .before .before .contains .ensures) ∙ c .before .before .before .before .before .before .before .before .before .before .before .before .if1 .left) (then (c .before .before .before .before .before .before .before .expect-check-recovery .ensures) gives))
+returns-2 c =
+    let at-expect-check-recovery = c .before .before .before .before .before .before .before in
+    let at-if1 = at-expect-check-recovery .before .before .before .before .before in
+    let at-contains = at-if1 .before in
+    let at-peek = at-contains .before .before .before .before .before .before .before .before in
+    then (at-peek .peek .ensures) (when-false (sym (at-contains .contains .ensures) ∙ at-if1 .if1 .left)
+    (then (at-expect-check-recovery .expect-check-recovery .ensures) gives))
 
 pub separate-spec : {M : Type 1} → statement M
 separate-spec =

@@ -18,16 +18,35 @@ as-name-requires : tie.Need-as-name-requires
 as-name-requires c κs = search needs
 
 same-length : tie.Need-same-length
-same-length c = c .before .before .before .before .before .before .as-name .kept .1 .1 .1 .1 .0 ∙ c .before .before .before .before .before .before .before .before .before .before .before .before .before .before .before .before .push-child .kept .1 .1 .1 .1 .0 ∙ c .before .before .before .before .before .before .before .before .before .before .before .before .before .before .before .before .before .before .before .before .before .before .before .before .before .before .open-from .kept .1 .1 .1 .1 .0
+same-length c =
+    let at-as-name = c .before .before .before .before .before .before in
+    let at-push-child = at-as-name .before .before .before .before .before .before .before .before .before .before in
+    let at-open-from = at-push-child .before .before .before .before .before .before .before .before .before .before in
+    at-as-name .as-name .kept .1 .1 .1 .1 .0 ∙ at-push-child .push-child .kept .1 .1 .1 .1 .0 ∙ at-open-from .open-from .kept .1 .1 .1 .1 .0
 
 same-length-2 : tie.Need-same-length-2
-same-length-2 c = c .before .before .before .before .before .before .as-name .kept .1 .1 .1 .1 .1 .0 ∙ c .before .before .before .before .before .before .before .before .before .before .before .before .before .before .before .before .push-child .kept .1 .1 .1 .1 .1 .0 ∙ c .before .before .before .before .before .before .before .before .before .before .before .before .before .before .before .before .before .before .before .before .before .before .before .before .before .before .open-from .kept .1 .1 .1 .1 .1 .0
+same-length-2 c =
+    let at-as-name = c .before .before .before .before .before .before in
+    let at-push-child = at-as-name .before .before .before .before .before .before .before .before .before .before in
+    let at-open-from = at-push-child .before .before .before .before .before .before .before .before .before .before in
+    at-as-name .as-name .kept .1 .1 .1 .1 .1 .0 ∙ at-push-child .push-child .kept .1 .1 .1 .1 .1 .0 ∙ at-open-from .open-from .kept .1 .1 .1 .1 .1 .0
 
 same-length-3 : tie.Need-same-length-3
-same-length-3 c = c .before .before .before .before .before .before .as-name .kept .1 .1 .1 .1 .1 .1 .0 ∙ c .before .before .before .before .before .before .before .before .before .before .before .before .before .before .before .before .push-child .kept .1 .1 .1 .1 .1 .1 .0 ∙ c .before .before .before .before .before .before .before .before .before .before .before .before .before .before .before .before .before .before .before .before .before .before .before .before .before .before .open-from .kept .1 .1 .1 .1 .1 .1 .0
+same-length-3 c =
+    let at-as-name = c .before .before .before .before .before .before in
+    let at-push-child = at-as-name .before .before .before .before .before .before .before .before .before .before in
+    let at-open-from = at-push-child .before .before .before .before .before .before .before .before .before .before in
+    at-as-name .as-name .kept .1 .1 .1 .1 .1 .1 .0 ∙ at-push-child .push-child .kept .1 .1 .1 .1 .1 .1 .0
+    ∙ at-open-from .open-from .kept .1 .1 .1 .1 .1 .1 .0
 
 returns : tie.Need-returns
-returns c = then (rw (c .before .before .before .before .before .before .before .before .before .before .before .before .before .before .before .before .before .before .before .before .before .before .before .before .before .before .before .before .before .before .flag .ensures) at (c .before .before .before .before .before .before .before .before .before .before .before .before .before .before .before .before .before .before .before .before .before .before .before .before .before .before .open-from .ensures)) (then (c .before .before .before .before .before .before .before .before .before .before .before .before .before .before .before .before .push-child .ensures) (c .before .before .before .before .before .before .as-name .ensures))
+returns c =
+    let at-as-name = c .before .before .before .before .before .before in
+    let at-push-child = at-as-name .before .before .before .before .before .before .before .before .before .before in
+    let at-open-from = at-push-child .before .before .before .before .before .before .before .before .before .before in
+    let at-flag = at-open-from .before .before .before .before in
+    then (rw (at-flag .flag .ensures) at (at-open-from .open-from .ensures))
+    (then (at-push-child .push-child .ensures) (at-as-name .as-name .ensures))
 
 pub as-decl-spec : {M : Type 1} → statement M
 as-decl-spec =

@@ -21,16 +21,46 @@ close-node-requires : tie.Need-close-node-requires
 close-node-requires c κs = search needs
 
 same-length : tie.Need-same-length
-same-length c = c .before .before .before .before .before .before .close-node .kept .1 .1 .1 .1 .0 ∙ c .before .before .before .before .before .before .before .before .before .before .before .before .before .before .before .before .expect2 .kept .1 .1 .1 .1 .0 ∙ c .before .before .before .before .before .before .before .before .before .before .before .before .before .before .before .before .before .before .before .before .before .before .before .before .before .before .push-child .kept .1 .1 .1 .1 .0 ∙ c .before .before .before .before .before .before .before .before .before .before .before .before .before .before .before .before .before .before .before .before .before .before .before .before .before .before .before .before .before .before .before .before .before .before .before .before .expect-ident .kept .1 .1 .1 .1 .0 ∙ c .before .before .before .before .before .before .before .before .before .before .before .before .before .before .before .before .before .before .before .before .before .before .before .before .before .before .before .before .before .before .before .before .before .before .before .before .before .before .before .before .before .before .before .before .before .before .expect .kept .1 .1 .1 .1 .0
+same-length c =
+    let at-close-node = c .before .before .before .before .before .before in
+    let at-expect2 = at-close-node .before .before .before .before .before .before .before .before .before .before in
+    let at-push-child = at-expect2 .before .before .before .before .before .before .before .before .before .before in
+    let at-expect-ident = at-push-child .before .before .before .before .before .before .before .before .before .before in
+    let at-expect = at-expect-ident .before .before .before .before .before .before .before .before .before .before in
+    at-close-node .close-node .kept .1 .1 .1 .1 .0 ∙ at-expect2 .expect2 .kept .1 .1 .1 .1 .0 ∙ at-push-child .push-child .kept .1 .1 .1 .1 .0
+    ∙ at-expect-ident .expect-ident .kept .1 .1 .1 .1 .0 ∙ at-expect .expect .kept .1 .1 .1 .1 .0
 
 same-length-2 : tie.Need-same-length-2
-same-length-2 c = c .before .before .before .before .before .before .close-node .kept .1 .1 .1 .1 .1 .0 ∙ c .before .before .before .before .before .before .before .before .before .before .before .before .before .before .before .before .expect2 .kept .1 .1 .1 .1 .1 .0 ∙ c .before .before .before .before .before .before .before .before .before .before .before .before .before .before .before .before .before .before .before .before .before .before .before .before .before .before .push-child .kept .1 .1 .1 .1 .1 .0 ∙ c .before .before .before .before .before .before .before .before .before .before .before .before .before .before .before .before .before .before .before .before .before .before .before .before .before .before .before .before .before .before .before .before .before .before .before .before .expect-ident .kept .1 .1 .1 .1 .1 .0 ∙ c .before .before .before .before .before .before .before .before .before .before .before .before .before .before .before .before .before .before .before .before .before .before .before .before .before .before .before .before .before .before .before .before .before .before .before .before .before .before .before .before .before .before .before .before .before .before .expect .kept .1 .1 .1 .1 .1 .0
+same-length-2 c =
+    let at-close-node = c .before .before .before .before .before .before in
+    let at-expect2 = at-close-node .before .before .before .before .before .before .before .before .before .before in
+    let at-push-child = at-expect2 .before .before .before .before .before .before .before .before .before .before in
+    let at-expect-ident = at-push-child .before .before .before .before .before .before .before .before .before .before in
+    let at-expect = at-expect-ident .before .before .before .before .before .before .before .before .before .before in
+    at-close-node .close-node .kept .1 .1 .1 .1 .1 .0 ∙ at-expect2 .expect2 .kept .1 .1 .1 .1 .1 .0
+    ∙ at-push-child .push-child .kept .1 .1 .1 .1 .1 .0 ∙ at-expect-ident .expect-ident .kept .1 .1 .1 .1 .1 .0
+    ∙ at-expect .expect .kept .1 .1 .1 .1 .1 .0
 
 same-length-3 : tie.Need-same-length-3
-same-length-3 c = c .before .before .before .before .before .before .close-node .kept .1 .1 .1 .1 .1 .1 .0 ∙ c .before .before .before .before .before .before .before .before .before .before .before .before .before .before .before .before .expect2 .kept .1 .1 .1 .1 .1 .1 .0 ∙ c .before .before .before .before .before .before .before .before .before .before .before .before .before .before .before .before .before .before .before .before .before .before .before .before .before .before .push-child .kept .1 .1 .1 .1 .1 .1 .0 ∙ c .before .before .before .before .before .before .before .before .before .before .before .before .before .before .before .before .before .before .before .before .before .before .before .before .before .before .before .before .before .before .before .before .before .before .before .before .expect-ident .kept .1 .1 .1 .1 .1 .1 .0 ∙ c .before .before .before .before .before .before .before .before .before .before .before .before .before .before .before .before .before .before .before .before .before .before .before .before .before .before .before .before .before .before .before .before .before .before .before .before .before .before .before .before .before .before .before .before .before .before .expect .kept .1 .1 .1 .1 .1 .1 .0
+same-length-3 c =
+    let at-close-node = c .before .before .before .before .before .before in
+    let at-expect2 = at-close-node .before .before .before .before .before .before .before .before .before .before in
+    let at-push-child = at-expect2 .before .before .before .before .before .before .before .before .before .before in
+    let at-expect-ident = at-push-child .before .before .before .before .before .before .before .before .before .before in
+    let at-expect = at-expect-ident .before .before .before .before .before .before .before .before .before .before in
+    at-close-node .close-node .kept .1 .1 .1 .1 .1 .1 .0 ∙ at-expect2 .expect2 .kept .1 .1 .1 .1 .1 .1 .0
+    ∙ at-push-child .push-child .kept .1 .1 .1 .1 .1 .1 .0 ∙ at-expect-ident .expect-ident .kept .1 .1 .1 .1 .1 .1 .0
+    ∙ at-expect .expect .kept .1 .1 .1 .1 .1 .1 .0
 
 returns : tie.Need-returns
-returns c = then (c .before .before .before .before .before .before .before .before .before .before .before .before .before .before .before .before .before .before .before .before .before .before .before .before .before .before .before .before .before .before .before .before .before .before .before .before .before .before .before .before .before .before .before .before .before .before .expect .ensures) (then (c .before .before .before .before .before .before .before .before .before .before .before .before .before .before .before .before .before .before .before .before .before .before .before .before .before .before .before .before .before .before .before .before .before .before .before .before .expect-ident .ensures) (then (c .before .before .before .before .before .before .before .before .before .before .before .before .before .before .before .before .before .before .before .before .before .before .before .before .before .before .push-child .ensures) (then (c .before .before .before .before .before .before .before .before .before .before .before .before .before .before .before .before .expect2 .ensures) (c .before .before .before .before .before .before .close-node .ensures))))
+returns c =
+    let at-close-node = c .before .before .before .before .before .before in
+    let at-expect2 = at-close-node .before .before .before .before .before .before .before .before .before .before in
+    let at-push-child = at-expect2 .before .before .before .before .before .before .before .before .before .before in
+    let at-expect-ident = at-push-child .before .before .before .before .before .before .before .before .before .before in
+    let at-expect = at-expect-ident .before .before .before .before .before .before .before .before .before .before in
+    then (at-expect .expect .ensures) (then (at-expect-ident .expect-ident .ensures)
+    (then (at-push-child .push-child .ensures) (then (at-expect2 .expect2 .ensures) (at-close-node .close-node .ensures))))
 
 pub as-name-spec : {M : Type 1} → statement M
 as-name-spec =

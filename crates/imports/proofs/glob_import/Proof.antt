@@ -19,17 +19,37 @@ close-node-requires : tie.Need-close-node-requires
 close-node-requires c κs = search needs
 
 same-length : tie.Need-same-length
-same-length c = c .before .before .before .before .before .before .before .close-node .kept .1 .1 .1 .1 .0 ∙ c .before .before .before .before .before .before .before .before .before .before .before .before .before .before .before .before .before .expect .kept .1 .1 .1 .1 .0 ∙ c .before .before .before .before .before .before .before .before .before .before .before .before .before .before .before .before .before .before .before .before .before .before .before .before .before .before .before .update-kind .kept .1 .1 .1 .1 .0
+same-length c =
+    let at-close-node = c .before .before .before .before .before .before .before in
+    let at-expect = at-close-node .before .before .before .before .before .before .before .before .before .before in
+    let at-update-kind = at-expect .before .before .before .before .before .before .before .before .before .before in
+    at-close-node .close-node .kept .1 .1 .1 .1 .0 ∙ at-expect .expect .kept .1 .1 .1 .1 .0 ∙ at-update-kind .update-kind .kept .1 .1 .1 .1 .0
 
 same-length-2 : tie.Need-same-length-2
-same-length-2 c = c .before .before .before .before .before .before .before .close-node .kept .1 .1 .1 .1 .1 .0 ∙ c .before .before .before .before .before .before .before .before .before .before .before .before .before .before .before .before .before .expect .kept .1 .1 .1 .1 .1 .0 ∙ c .before .before .before .before .before .before .before .before .before .before .before .before .before .before .before .before .before .before .before .before .before .before .before .before .before .before .before .update-kind .kept .1 .1 .1 .1 .1 .0
+same-length-2 c =
+    let at-close-node = c .before .before .before .before .before .before .before in
+    let at-expect = at-close-node .before .before .before .before .before .before .before .before .before .before in
+    let at-update-kind = at-expect .before .before .before .before .before .before .before .before .before .before in
+    at-close-node .close-node .kept .1 .1 .1 .1 .1 .0 ∙ at-expect .expect .kept .1 .1 .1 .1 .1 .0
+    ∙ at-update-kind .update-kind .kept .1 .1 .1 .1 .1 .0
 
 same-length-3 : tie.Need-same-length-3
-same-length-3 c = c .before .before .before .before .before .before .before .close-node .kept .1 .1 .1 .1 .1 .1 .0 ∙ c .before .before .before .before .before .before .before .before .before .before .before .before .before .before .before .before .before .expect .kept .1 .1 .1 .1 .1 .1 .0 ∙ c .before .before .before .before .before .before .before .before .before .before .before .before .before .before .before .before .before .before .before .before .before .before .before .before .before .before .before .update-kind .kept .1 .1 .1 .1 .1 .1 .0
+same-length-3 c =
+    let at-close-node = c .before .before .before .before .before .before .before in
+    let at-expect = at-close-node .before .before .before .before .before .before .before .before .before .before in
+    let at-update-kind = at-expect .before .before .before .before .before .before .before .before .before .before in
+    at-close-node .close-node .kept .1 .1 .1 .1 .1 .1 .0 ∙ at-expect .expect .kept .1 .1 .1 .1 .1 .1 .0
+    ∙ at-update-kind .update-kind .kept .1 .1 .1 .1 .1 .1 .0
 
 returns : tie.Need-returns
 unfolding globImport
-returns c = then (rw (c .before .before .before .before .before .before .before .before .before .before .before .before .before .before .before .before .before .before .before .before .before .before .before .before .before .before .before .before .glob-flags .ensures) at (c .before .before .before .before .before .before .before .before .before .before .before .before .before .before .before .before .before .before .before .before .before .before .before .before .before .before .before .update-kind .ensures)) (then (c .before .before .before .before .before .before .before .before .before .before .before .before .before .before .before .before .before .expect .ensures) (then (c .before .before .before .before .before .before .before .close-node .ensures) gives))
+returns c =
+    let at-close-node = c .before .before .before .before .before .before .before in
+    let at-expect = at-close-node .before .before .before .before .before .before .before .before .before .before in
+    let at-update-kind = at-expect .before .before .before .before .before .before .before .before .before .before in
+    let at-glob-flags = at-update-kind .before in
+    then (rw (at-glob-flags .glob-flags .ensures) at (at-update-kind .update-kind .ensures))
+    (then (at-expect .expect .ensures) (then (at-close-node .close-node .ensures) gives))
 
 pub glob-import-spec : {M : Type 1} → statement M
 glob-import-spec =

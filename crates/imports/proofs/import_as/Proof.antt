@@ -16,17 +16,35 @@ as-decl-requires : tie.Need-as-decl-requires
 as-decl-requires c κs = search needs
 
 same-length : tie.Need-same-length
-same-length c = c .before .before .before .before .before .before .as-decl .kept .1 .1 .1 .1 .0 ∙ c .before .before .before .before .before .before .before .before .before .before .before .before .before .before .before .before .close-node .kept .1 .1 .1 .1 .0 ∙ c .before .before .before .before .before .before .before .before .before .before .before .before .before .before .before .before .before .before .before .before .before .before .before .before .before .before .update-kind .kept .1 .1 .1 .1 .0
+same-length c =
+    let at-as-decl = c .before .before .before .before .before .before in
+    let at-close-node = at-as-decl .before .before .before .before .before .before .before .before .before .before in
+    let at-update-kind = at-close-node .before .before .before .before .before .before .before .before .before .before in
+    at-as-decl .as-decl .kept .1 .1 .1 .1 .0 ∙ at-close-node .close-node .kept .1 .1 .1 .1 .0 ∙ at-update-kind .update-kind .kept .1 .1 .1 .1 .0
 
 same-length-2 : tie.Need-same-length-2
-same-length-2 c = c .before .before .before .before .before .before .as-decl .kept .1 .1 .1 .1 .1 .0 ∙ c .before .before .before .before .before .before .before .before .before .before .before .before .before .before .before .before .close-node .kept .1 .1 .1 .1 .1 .0 ∙ c .before .before .before .before .before .before .before .before .before .before .before .before .before .before .before .before .before .before .before .before .before .before .before .before .before .before .update-kind .kept .1 .1 .1 .1 .1 .0
+same-length-2 c =
+    let at-as-decl = c .before .before .before .before .before .before in
+    let at-close-node = at-as-decl .before .before .before .before .before .before .before .before .before .before in
+    let at-update-kind = at-close-node .before .before .before .before .before .before .before .before .before .before in
+    at-as-decl .as-decl .kept .1 .1 .1 .1 .1 .0 ∙ at-close-node .close-node .kept .1 .1 .1 .1 .1 .0
+    ∙ at-update-kind .update-kind .kept .1 .1 .1 .1 .1 .0
 
 same-length-3 : tie.Need-same-length-3
-same-length-3 c = c .before .before .before .before .before .before .as-decl .kept .1 .1 .1 .1 .1 .1 .0 ∙ c .before .before .before .before .before .before .before .before .before .before .before .before .before .before .before .before .close-node .kept .1 .1 .1 .1 .1 .1 .0 ∙ c .before .before .before .before .before .before .before .before .before .before .before .before .before .before .before .before .before .before .before .before .before .before .before .before .before .before .update-kind .kept .1 .1 .1 .1 .1 .1 .0
+same-length-3 c =
+    let at-as-decl = c .before .before .before .before .before .before in
+    let at-close-node = at-as-decl .before .before .before .before .before .before .before .before .before .before in
+    let at-update-kind = at-close-node .before .before .before .before .before .before .before .before .before .before in
+    at-as-decl .as-decl .kept .1 .1 .1 .1 .1 .1 .0 ∙ at-close-node .close-node .kept .1 .1 .1 .1 .1 .1 .0
+    ∙ at-update-kind .update-kind .kept .1 .1 .1 .1 .1 .1 .0
 
 returns : tie.Need-returns
 unfolding importAs
-returns c = then (c .before .before .before .before .before .before .before .before .before .before .before .before .before .before .before .before .before .before .before .before .before .before .before .before .before .before .update-kind .ensures) (then (c .before .before .before .before .before .before .before .before .before .before .before .before .before .before .before .before .close-node .ensures) (c .before .before .before .before .before .before .as-decl .ensures))
+returns c =
+    let at-as-decl = c .before .before .before .before .before .before in
+    let at-close-node = at-as-decl .before .before .before .before .before .before .before .before .before .before in
+    let at-update-kind = at-close-node .before .before .before .before .before .before .before .before .before .before in
+    then (at-update-kind .update-kind .ensures) (then (at-close-node .close-node .ensures) (at-as-decl .as-decl .ensures))
 
 pub import-as-spec : {M : Type 1} → statement M
 import-as-spec =

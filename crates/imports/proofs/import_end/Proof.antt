@@ -12,31 +12,57 @@ close-node-requires : tie.Need-close-node-requires
 close-node-requires c κs = search needs
 
 same-length : tie.Need-same-length
-same-length c = c .before .before .before .before .before .before .close-node .kept .1 .1 .1 .1 .0 ∙ c .before .before .before .before .before .before .before .before .before .before .before .before .before .before .before .before .before .before .eat .kept .1 .1 .1 .1 .0
+same-length c =
+    let at-close-node = c .before .before .before .before .before .before in
+    let at-eat = at-close-node .before .before .before .before .before .before .before .before .before .before .before .before in
+    at-close-node .close-node .kept .1 .1 .1 .1 .0 ∙ at-eat .eat .kept .1 .1 .1 .1 .0
 
 same-length-2 : tie.Need-same-length-2
-same-length-2 c = c .before .before .before .before .before .before .close-node .kept .1 .1 .1 .1 .1 .0 ∙ c .before .before .before .before .before .before .before .before .before .before .before .before .before .before .before .before .before .before .eat .kept .1 .1 .1 .1 .1 .0
+same-length-2 c =
+    let at-close-node = c .before .before .before .before .before .before in
+    let at-eat = at-close-node .before .before .before .before .before .before .before .before .before .before .before .before in
+    at-close-node .close-node .kept .1 .1 .1 .1 .1 .0 ∙ at-eat .eat .kept .1 .1 .1 .1 .1 .0
 
 same-length-3 : tie.Need-same-length-3
-same-length-3 c = c .before .before .before .before .before .before .close-node .kept .1 .1 .1 .1 .1 .1 .0 ∙ c .before .before .before .before .before .before .before .before .before .before .before .before .before .before .before .before .before .before .eat .kept .1 .1 .1 .1 .1 .1 .0
+same-length-3 c =
+    let at-close-node = c .before .before .before .before .before .before in
+    let at-eat = at-close-node .before .before .before .before .before .before .before .before .before .before .before .before in
+    at-close-node .close-node .kept .1 .1 .1 .1 .1 .1 .0 ∙ at-eat .eat .kept .1 .1 .1 .1 .1 .1 .0
 
 returns : tie.Need-returns
-returns c = then (c .before .before .before .before .before .before .before .before .before .before .before .before .before .before .before .before .before .before .eat .ensures) (when-true (c .before .before .before .before .before .before .before .before .before .before .if1 .taken) (c .before .before .before .before .before .before .close-node .ensures))
+returns c =
+    let at-close-node = c .before .before .before .before .before .before in
+    let at-if1 = at-close-node .before .before .before .before in
+    let at-eat = at-if1 .before .before .before .before .before .before .before .before in
+    then (at-eat .eat .ensures) (when-true (at-if1 .if1 .taken) (at-close-node .close-node .ensures))
 
 import-as-requires : tie.Need-import-as-requires
 import-as-requires c κs = search needs
 
 same-length-4 : tie.Need-same-length-4
-same-length-4 c = c .before .before .before .before .before .before .import-as .kept .1 .1 .1 .1 .0 ∙ c .before .before .before .before .before .before .before .before .before .before .before .before .before .before .before .before .before .before .eat .kept .1 .1 .1 .1 .0
+same-length-4 c =
+    let at-import-as = c .before .before .before .before .before .before in
+    let at-eat = at-import-as .before .before .before .before .before .before .before .before .before .before .before .before in
+    at-import-as .import-as .kept .1 .1 .1 .1 .0 ∙ at-eat .eat .kept .1 .1 .1 .1 .0
 
 same-length-5 : tie.Need-same-length-5
-same-length-5 c = c .before .before .before .before .before .before .import-as .kept .1 .1 .1 .1 .1 .0 ∙ c .before .before .before .before .before .before .before .before .before .before .before .before .before .before .before .before .before .before .eat .kept .1 .1 .1 .1 .1 .0
+same-length-5 c =
+    let at-import-as = c .before .before .before .before .before .before in
+    let at-eat = at-import-as .before .before .before .before .before .before .before .before .before .before .before .before in
+    at-import-as .import-as .kept .1 .1 .1 .1 .1 .0 ∙ at-eat .eat .kept .1 .1 .1 .1 .1 .0
 
 same-length-6 : tie.Need-same-length-6
-same-length-6 c = c .before .before .before .before .before .before .import-as .kept .1 .1 .1 .1 .1 .1 .0 ∙ c .before .before .before .before .before .before .before .before .before .before .before .before .before .before .before .before .before .before .eat .kept .1 .1 .1 .1 .1 .1 .0
+same-length-6 c =
+    let at-import-as = c .before .before .before .before .before .before in
+    let at-eat = at-import-as .before .before .before .before .before .before .before .before .before .before .before .before in
+    at-import-as .import-as .kept .1 .1 .1 .1 .1 .1 .0 ∙ at-eat .eat .kept .1 .1 .1 .1 .1 .1 .0
 
 returns-2 : tie.Need-returns-2
-returns-2 c = then (c .before .before .before .before .before .before .before .before .before .before .before .before .before .before .before .before .before .before .eat .ensures) (when-false (c .before .before .before .before .before .before .before .before .before .before .if1 .left) (c .before .before .before .before .before .before .import-as .ensures))
+returns-2 c =
+    let at-import-as = c .before .before .before .before .before .before in
+    let at-if1 = at-import-as .before .before .before .before in
+    let at-eat = at-if1 .before .before .before .before .before .before .before .before in
+    then (at-eat .eat .ensures) (when-false (at-if1 .if1 .left) (at-import-as .import-as .ensures))
 
 pub import-end-spec : {M : Type 1} → statement M
 import-end-spec =

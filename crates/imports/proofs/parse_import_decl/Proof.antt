@@ -22,17 +22,42 @@ import-rest-requires : tie.Need-import-rest-requires
 import-rest-requires c κs = search needs
 
 same-length : tie.Need-same-length
-same-length c = c .before .before .before .before .before .before .import-rest .kept .1 .1 .1 .1 .0 ∙ c .before .before .before .before .before .before .before .before .before .before .before .before .before .before .before .before .push-child .kept .1 .1 .1 .1 .0 ∙ c .before .before .before .before .before .before .before .before .before .before .before .before .before .before .before .before .before .before .before .before .before .before .before .before .before .before .expect-ident .kept .1 .1 .1 .1 .0 ∙ c .before .before .before .before .before .before .before .before .before .before .before .before .before .before .before .before .before .before .before .before .before .before .before .before .before .before .before .before .before .before .before .before .before .before .before .before .open-from .kept .1 .1 .1 .1 .0
+same-length c =
+    let at-import-rest = c .before .before .before .before .before .before in
+    let at-push-child = at-import-rest .before .before .before .before .before .before .before .before .before .before in
+    let at-expect-ident = at-push-child .before .before .before .before .before .before .before .before .before .before in
+    let at-open-from = at-expect-ident .before .before .before .before .before .before .before .before .before .before in
+    at-import-rest .import-rest .kept .1 .1 .1 .1 .0 ∙ at-push-child .push-child .kept .1 .1 .1 .1 .0
+    ∙ at-expect-ident .expect-ident .kept .1 .1 .1 .1 .0 ∙ at-open-from .open-from .kept .1 .1 .1 .1 .0
 
 same-length-2 : tie.Need-same-length-2
-same-length-2 c = c .before .before .before .before .before .before .import-rest .kept .1 .1 .1 .1 .1 .0 ∙ c .before .before .before .before .before .before .before .before .before .before .before .before .before .before .before .before .push-child .kept .1 .1 .1 .1 .1 .0 ∙ c .before .before .before .before .before .before .before .before .before .before .before .before .before .before .before .before .before .before .before .before .before .before .before .before .before .before .expect-ident .kept .1 .1 .1 .1 .1 .0 ∙ c .before .before .before .before .before .before .before .before .before .before .before .before .before .before .before .before .before .before .before .before .before .before .before .before .before .before .before .before .before .before .before .before .before .before .before .before .open-from .kept .1 .1 .1 .1 .1 .0
+same-length-2 c =
+    let at-import-rest = c .before .before .before .before .before .before in
+    let at-push-child = at-import-rest .before .before .before .before .before .before .before .before .before .before in
+    let at-expect-ident = at-push-child .before .before .before .before .before .before .before .before .before .before in
+    let at-open-from = at-expect-ident .before .before .before .before .before .before .before .before .before .before in
+    at-import-rest .import-rest .kept .1 .1 .1 .1 .1 .0 ∙ at-push-child .push-child .kept .1 .1 .1 .1 .1 .0
+    ∙ at-expect-ident .expect-ident .kept .1 .1 .1 .1 .1 .0 ∙ at-open-from .open-from .kept .1 .1 .1 .1 .1 .0
 
 same-length-3 : tie.Need-same-length-3
-same-length-3 c = c .before .before .before .before .before .before .import-rest .kept .1 .1 .1 .1 .1 .1 .0 ∙ c .before .before .before .before .before .before .before .before .before .before .before .before .before .before .before .before .push-child .kept .1 .1 .1 .1 .1 .1 .0 ∙ c .before .before .before .before .before .before .before .before .before .before .before .before .before .before .before .before .before .before .before .before .before .before .before .before .before .before .expect-ident .kept .1 .1 .1 .1 .1 .1 .0 ∙ c .before .before .before .before .before .before .before .before .before .before .before .before .before .before .before .before .before .before .before .before .before .before .before .before .before .before .before .before .before .before .before .before .before .before .before .before .open-from .kept .1 .1 .1 .1 .1 .1 .0
+same-length-3 c =
+    let at-import-rest = c .before .before .before .before .before .before in
+    let at-push-child = at-import-rest .before .before .before .before .before .before .before .before .before .before in
+    let at-expect-ident = at-push-child .before .before .before .before .before .before .before .before .before .before in
+    let at-open-from = at-expect-ident .before .before .before .before .before .before .before .before .before .before in
+    at-import-rest .import-rest .kept .1 .1 .1 .1 .1 .1 .0 ∙ at-push-child .push-child .kept .1 .1 .1 .1 .1 .1 .0
+    ∙ at-expect-ident .expect-ident .kept .1 .1 .1 .1 .1 .1 .0 ∙ at-open-from .open-from .kept .1 .1 .1 .1 .1 .1 .0
 
 returns : tie.Need-returns
 unfolding parseImportDecl
-returns c = then (rw (c .before .before .before .before .before .before .before .before .before .before .before .before .before .before .before .before .before .before .before .before .before .before .before .before .before .before .before .before .before .before .before .before .before .before .before .before .before .before .before .before .flag .ensures) at (c .before .before .before .before .before .before .before .before .before .before .before .before .before .before .before .before .before .before .before .before .before .before .before .before .before .before .before .before .before .before .before .before .before .before .before .before .open-from .ensures)) (then (c .before .before .before .before .before .before .before .before .before .before .before .before .before .before .before .before .before .before .before .before .before .before .before .before .before .before .expect-ident .ensures) (then (c .before .before .before .before .before .before .before .before .before .before .before .before .before .before .before .before .push-child .ensures) (c .before .before .before .before .before .before .import-rest .ensures)))
+returns c =
+    let at-import-rest = c .before .before .before .before .before .before in
+    let at-push-child = at-import-rest .before .before .before .before .before .before .before .before .before .before in
+    let at-expect-ident = at-push-child .before .before .before .before .before .before .before .before .before .before in
+    let at-open-from = at-expect-ident .before .before .before .before .before .before .before .before .before .before in
+    let at-flag = at-open-from .before .before .before .before in
+    then (rw (at-flag .flag .ensures) at (at-open-from .open-from .ensures))
+    (then (at-expect-ident .expect-ident .ensures) (then (at-push-child .push-child .ensures) (at-import-rest .import-rest .ensures)))
 
 pub parse-import-decl-spec : {M : Type 1} → statement M
 parse-import-decl-spec =

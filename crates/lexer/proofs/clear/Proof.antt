@@ -1,5 +1,5 @@
 -- `clear` meets its contract: what the words become from `i` on is what they become from `n` on.
-use mathlib.Core.Path.{_≡_, refl, _∙_}
+use mathlib.Core.Path.{_≡_, refl}
 use Prim.Native.Nat.{_-_}
 use lib.ListN.{length, length-set}
 use Rattle.lexer.specs.Walk.{cleared, cleared-over, cleared-next}

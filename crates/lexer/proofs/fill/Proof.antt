@@ -1,7 +1,7 @@
 -- `fill` meets its contract: the tokens from `at` on, put from `n` on, make the words that all tokens make.
 use mathlib.Core.Path.{_∙_}
 use Prim.Native.Nat.{_-_}
-use lib.ListN.{length, length-set}
+use lib.ListN.{length}
 use Rattle.lexer.specs.Walk.{Filling, filling-first, filling-next, filling-last, stepped}
 use Rattle.tokens.specs.Next.{next-inside}
 use borrow.Author.Needs.{needs}
@@ -22,7 +22,16 @@ next-token-requires : tie.Need-next-token-requires Inv-loop μ-loop
 next-token-requires c κs = search needs
 
 cast-token-word : tie.Need-cast-token-word Inv-loop μ-loop
-cast-token-word c = omega (arith, stepped _ _ _ (c .before .before .loop-test .taken) (next-inside _ _ _ (c .before .before .loop-test .taken) (c .before .next-token .ensures)) .within, c .before .before .before .before .before .before .pre)
+cast-token-word c =
+    let at-next-token = c .before in
+    let at-loop-test = at-next-token .before in
+    let at-pre = at-loop-test .before .before .before .before in
+    omega (
+      arith,
+      stepped _ _ _ (at-loop-test .loop-test .taken)
+          (next-inside _ _ _ (at-loop-test .loop-test .taken) (at-next-token .next-token .ensures)) .within,
+      at-pre .pre,
+    )
 
 token-word-requires : tie.Need-token-word-requires Inv-loop μ-loop
 token-word-requires c κs = search needs
@@ -31,16 +40,38 @@ put-requires : tie.Need-put-requires Inv-loop μ-loop
 put-requires c κs = search needs
 
 add-n : tie.Need-add-n Inv-loop μ-loop
-add-n c = omega (arith, c .before .before .before .before .before .before .before .loop .inv .few, c .before .before .before .before .before .before .loop-test .taken)
+add-n c =
+    let at-loop-test = c .before .before .before .before .before .before in
+    let at-loop = at-loop-test .before in
+    omega (arith, at-loop .loop .inv .few, at-loop-test .loop-test .taken)
 
 loop-less : tie.Need-loop-less Inv-loop μ-loop
-loop-less c = omega (arith, c .before .before .before .before .before .before .loop-test .taken, stepped _ _ _ (c .before .before .before .before .before .before .loop-test .taken) (next-inside _ _ _ (c .before .before .before .before .before .before .loop-test .taken) (c .before .before .before .before .before .next-token .ensures)) .on)
+loop-less c =
+    let at-next-token = c .before .before .before .before .before in
+    let at-loop-test = at-next-token .before in
+    omega (
+      arith,
+      at-loop-test .loop-test .taken,
+      stepped _ _ _ (at-loop-test .loop-test .taken)
+          (next-inside _ _ _ (at-loop-test .loop-test .taken) (at-next-token .next-token .ensures)) .on,
+    )
 
 loop-again : tie.Need-loop-again Inv-loop μ-loop
-loop-again c = filling-next _ _ _ _ _ (c .before .before .before .before .before .before .before .loop .inv) _ _ _ (c .before .before .before .before .before .before .loop-test .taken) (next-inside _ _ _ (c .before .before .before .before .before .before .loop-test .taken) (c .before .before .before .before .before .next-token .ensures)) (c .before .before .before .token-word .ensures) (c .before .before .put .ensures)
+loop-again c =
+    let at-put = c .before .before in
+    let at-token-word = at-put .before in
+    let at-next-token = at-token-word .before .before in
+    let at-loop-test = at-next-token .before in
+    let at-loop = at-loop-test .before in
+    filling-next _ _ _ _ _ (at-loop .loop .inv) _ _ _ (at-loop-test .loop-test .taken)
+    (next-inside _ _ _ (at-loop-test .loop-test .taken) (at-next-token .next-token .ensures)) (at-token-word .token-word .ensures)
+    (at-put .put .ensures)
 
 cast-token-word-2 : tie.Need-cast-token-word-2 Inv-loop μ-loop
-cast-token-word-2 c = omega (arith, c .before .before .loop .inv .within, c .before .before .before .before .before .pre)
+cast-token-word-2 c =
+    let at-loop = c .before .before in
+    let at-pre = at-loop .before .before .before in
+    omega (arith, at-loop .loop .inv .within, at-pre .pre)
 
 token-word-requires-2 : tie.Need-token-word-requires-2 Inv-loop μ-loop
 token-word-requires-2 c κs = search needs
@@ -49,13 +80,23 @@ put-requires-2 : tie.Need-put-requires-2 Inv-loop μ-loop
 put-requires-2 c κs = search needs
 
 add-result : tie.Need-add-result Inv-loop μ-loop
-add-result c = omega (arith, c .before .before .before .before .before .before .loop .inv .few, c .before .before .before .before .before .before .loop .inv .within)
+add-result c =
+    let at-loop = c .before .before .before .before .before .before in
+    omega (arith, at-loop .loop .inv .few, at-loop .loop .inv .within)
 
 same-length : tie.Need-same-length Inv-loop μ-loop
-same-length c = c .before .before .put2 .kept .0 ∙ c .before .before .before .before .before .before .loop .inv .kept
+same-length c =
+    let at-put2 = c .before .before in
+    let at-loop = at-put2 .before .before .before .before in
+    at-put2 .put2 .kept .0 ∙ at-loop .loop .inv .kept
 
 returns : tie.Need-returns Inv-loop μ-loop
-returns c = filling-last _ _ _ _ _ (c .before .before .before .before .before .before .loop .inv) _ _ (c .before .before .before .before .before .loop-test .left) (c .before .before .before .token-word2 .ensures) (c .before .before .put2 .ensures)
+returns c =
+    let at-put2 = c .before .before in
+    let at-token-word2 = at-put2 .before in
+    let at-loop-test = at-token-word2 .before .before in
+    let at-loop = at-loop-test .before in
+    filling-last _ _ _ _ _ (at-loop .loop .inv) _ _ (at-loop-test .loop-test .left) (at-token-word2 .token-word2 .ensures) (at-put2 .put2 .ensures)
 
 pub fill-spec : {M : Type 1} → statement M
 fill-spec =

@@ -1,20 +1,22 @@
--- `spelling` meets its contract, by case.
-use Rattle.lexer.specs.Calls.{past-words, falling, past-text, covered}
+-- `spelling` meets its contract, by case: the bytes of the part, and where it begins.
+use mathlib.Core.Path.{refl}
+use Rattle.lexer.specs.Calls.{past-words, falling, past-text, covered, empty}
 use borrow.Author.Needs.{needs}
+use native.Mathlib.Omega.{arith}
 use Rattle.lexer.proofs.spelling.Statement.{statement}
 use Rattle.lexer.proofs.spelling.Tie as tie
 
-sub-result : tie.Need-sub-result
-sub-result c = search needs
+sub-empty : tie.Need-sub-empty
+sub-empty c = search needs
 
-part-result-start : tie.Need-part-result-start
-part-result-start c = search needs
+part-empty-start : tie.Need-part-empty-start
+part-empty-start c = search needs
 
-part-result-end : tie.Need-part-result-end
-part-result-end c = search needs
+part-empty-end : tie.Need-part-empty-end
+part-empty-end c = search needs
 
 returns : tie.Need-returns
-returns c = search (needs, past-words)
+returns c = empty _ _ _ (past-words _ _ _ (c .if1 .taken)) _ (search needs) _ _ (refl, omega arith)
 
 start-of-requires : tie.Need-start-of-requires
 start-of-requires c κs = search needs
@@ -31,60 +33,54 @@ token-end-requires c κs = search needs
 cast-end : tie.Need-cast-end
 cast-end c = search needs
 
-sub-result-2 : tie.Need-sub-result-2
-sub-result-2 c = search needs
-
-part-result-start-2 : tie.Need-part-result-start-2
-part-result-start-2 c = search needs
-
-part-result-end-2 : tie.Need-part-result-end-2
-part-result-end-2 c = search needs
-
 returns-2 : tie.Need-returns-2
-returns-2 c = search (needs, falling)
-
-sub-result-3 : tie.Need-sub-result-3
-sub-result-3 c = search needs
-
-part-result-start-3 : tie.Need-part-result-start-3
-part-result-start-3 c = search needs
-
-part-result-end-3 : tie.Need-part-result-end-3
-part-result-end-3 c = search needs
+returns-2 c =
+    let at-token-end = c .before in
+    let at-start-of = at-token-end .before .before in
+    let at-if1 = at-start-of .before in
+    empty _ _ _ (falling _ _ _ (at-if1 .if1 .left) _ _ (at-start-of .start-of .ensures) (at-token-end .token-end .ensures) (c .if2 .taken)) _ (search needs) _ _
+    (refl, omega arith)
 
 returns-3 : tie.Need-returns-3
-returns-3 c = search (needs, past-text)
+returns-3 c =
+    let at-if2 = c .before in
+    let at-token-end = at-if2 .before in
+    let at-start-of = at-token-end .before .before in
+    let at-if1 = at-start-of .before in
+    empty _ _ _ (past-text _ _ _ (at-if1 .if1 .left) _ _ (at-start-of .start-of .ensures) (at-token-end .token-end .ensures) (at-if2 .if2 .left)
+    (c .if3 .taken)) _ (search needs) _ _ (refl, omega arith)
 
-part-result-start-4 : tie.Need-part-result-start-4
-part-result-start-4 c = search needs
+part-result-start : tie.Need-part-result-start
+part-result-start c = search needs
 
-part-result-end-4 : tie.Need-part-result-end-4
-part-result-end-4 c = search needs
+part-result-end : tie.Need-part-result-end
+part-result-end c = search needs
 
 returns-4 : tie.Need-returns-4
-returns-4 c = search (needs, covered)
+returns-4 c =
+    let at-if3 = c .before in
+    let at-if2 = at-if3 .before in
+    let at-token-end = at-if2 .before in
+    let at-start-of = at-token-end .before .before in
+    let at-if1 = at-start-of .before in
+    covered _ _ _ (at-if1 .if1 .left) _ _ (at-start-of .start-of .ensures) (at-token-end .token-end .ensures) (at-if2 .if2 .left) (at-if3 .if3 .left) _ _
+    (refl, omega arith)
 
 pub spelling-spec : {M : Type 1} → statement M
 spelling-spec =
     tie.close
     (tie.spec
-    sub-result
-    part-result-start
-    part-result-end
+    sub-empty
+    part-empty-start
+    part-empty-end
     returns
     start-of-requires
     mul-token-end
     shared-slice-read-token-end
     token-end-requires
     cast-end
-    sub-result-2
-    part-result-start-2
-    part-result-end-2
     returns-2
-    sub-result-3
-    part-result-start-3
-    part-result-end-3
     returns-3
-    part-result-start-4
-    part-result-end-4
+    part-result-start
+    part-result-end
     returns-4)

@@ -1,7 +1,5 @@
 -- `start_of` meets its contract.
-use mathlib.Core.Path.{_∙_, sym, ap}
-use Rattle.words.specs.Words.{tokenEnd}
-use Rattle.lexer.specs.Lex.{startOf}
+use mathlib.Core.Path.{_∙_}
 use Rattle.lexer.specs.Calls.{start-next}
 use borrow.Author.Needs.{needs}
 use Rattle.lexer.proofs.start_of.Statement.{statement}

@@ -12,7 +12,10 @@ same-length : tie.Need-same-length
 same-length c = search needs
 
 returns : tie.Need-returns
-returns c = c .before .before .clear .ensures ∙ cleared-all (c .before .before .before .before .before .args .words .now)
+returns c =
+    let at-clear = c .before .before in
+    let at-args = at-clear .before .before .before in
+    at-clear .clear .ensures ∙ cleared-all (at-args .args .words .now)
 
 pub clear-spec : {M : Type 1} → statement M
 clear-spec = tie.close (tie.spec clear-requires same-length returns)

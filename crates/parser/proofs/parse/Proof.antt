@@ -28,7 +28,12 @@ same-length-3 : tie.Need-same-length-3
 same-length-3 c = search needs
 
 returns : tie.Need-returns
-returns c = rw (c .before .before .clear3 .ensures, c .before .before .before .before .before .before .clear2 .ensures, c .before .before .before .before .before .before .before .before .before .before .clear .ensures) (text-long _ _ _ _ _ (c .before .before .before .before .before .before .before .before .before .before .before .before .if1 .taken))
+returns c =
+    let at-clear3 = c .before .before in
+    let at-clear2 = at-clear3 .before .before .before .before in
+    let at-clear = at-clear2 .before .before .before .before in
+    let at-if1 = at-clear .before .before in
+    rw (at-clear3 .clear3 .ensures, at-clear2 .clear2 .ensures, at-clear .clear .ensures) (text-long _ _ _ _ _ (at-if1 .if1 .taken))
 
 parse-source-requires : tie.Need-parse-source-requires
 parse-source-requires c κs = search needs
@@ -43,7 +48,10 @@ same-length-6 : tie.Need-same-length-6
 same-length-6 c = search needs
 
 returns-2 : tie.Need-returns-2
-returns-2 c = text-parsed _ _ _ _ _ (c .before .before .before .before .before .before .before .before .before .before .before .if1 .left) (c .before .before .before .before .before .before .parse-source .ensures) ∙ text-short _ _ _ _ _ (c .before .before .before .before .before .before .before .before .before .before .before .if1 .left)
+returns-2 c =
+    let at-parse-source = c .before .before .before .before .before .before in
+    let at-if1 = at-parse-source .before .before .before .before .before in
+    text-parsed _ _ _ _ _ (at-if1 .if1 .left) (at-parse-source .parse-source .ensures) ∙ text-short _ _ _ _ _ (at-if1 .if1 .left)
 
 parse-long-requires : tie.Need-parse-long-requires
 parse-long-requires c κs = search needs
@@ -58,7 +66,10 @@ same-length-9 : tie.Need-same-length-9
 same-length-9 c = search needs
 
 returns-3 : tie.Need-returns-3
-returns-3 c = c .before .before .before .before .before .before .parse-long .ensures ∙ text-short _ _ _ _ _ (c .before .before .before .before .before .before .before .before .before .before .before .if1 .left)
+returns-3 c =
+    let at-parse-long = c .before .before .before .before .before .before in
+    let at-if1 = at-parse-long .before .before .before .before .before in
+    at-parse-long .parse-long .ensures ∙ text-short _ _ _ _ _ (at-if1 .if1 .left)
 
 pub parse-spec : {M : Type 1} → statement M
 parse-spec =

@@ -26,7 +26,11 @@ same-length-3 : tie.Need-same-length-3
 same-length-3 c = search needs
 
 returns : tie.Need-returns
-returns c = source-parsed _ _ _ _ _ _ (c .before .before .before .before .before .before .before .before .before .before .before .before .before .annotate .ensures (c .before .before .before .before .before .before .before .before .before .before .before .if1 .taken)) (c .before .before .before .before .before .before .parse-source .ensures)
+returns c =
+    let at-parse-source = c .before .before .before .before .before .before in
+    let at-if1 = at-parse-source .before .before .before .before .before in
+    let at-annotate = at-if1 .before .before in
+    source-parsed _ _ _ _ _ _ (at-annotate .annotate .ensures .1 (at-if1 .if1 .taken)) (at-parse-source .parse-source .ensures)
 
 parse-source-requires-2 : tie.Need-parse-source-requires-2
 parse-source-requires-2 c κs = search needs
@@ -41,7 +45,9 @@ same-length-6 : tie.Need-same-length-6
 same-length-6 c = search needs
 
 returns-2 : tie.Need-returns-2
-returns-2 c = text-parsed _ _ _ _ _ (search needs) (c .before .before .before .before .before .before .parse-source2 .ensures)
+returns-2 c =
+    let at-parse-source2 = c .before .before .before .before .before .before in
+    text-parsed _ _ _ _ _ (search needs) (at-parse-source2 .parse-source2 .ensures)
 
 pub parse-long-spec : {M : Type 1} → statement M
 parse-long-spec =

@@ -13,16 +13,28 @@ push-child-requires : tie.Need-push-child-requires
 push-child-requires c κs = search needs
 
 same-length : tie.Need-same-length
-same-length c = c .before .before .before .before .before .before .before .before .push-child .kept .1 .1 .1 .1 .0 ∙ c .before .before .before .before .before .before .before .before .before .before .before .before .before .before .before .before .before .before .push-close .kept .1 .1 .1 .1 .0
+same-length c =
+    let at-push-child = c .before .before .before .before .before .before .before .before in
+    let at-push-close = at-push-child .before .before .before .before .before .before .before .before .before .before in
+    at-push-child .push-child .kept .1 .1 .1 .1 .0 ∙ at-push-close .push-close .kept .1 .1 .1 .1 .0
 
 same-length-2 : tie.Need-same-length-2
-same-length-2 c = c .before .before .before .before .before .before .before .before .push-child .kept .1 .1 .1 .1 .1 .0 ∙ c .before .before .before .before .before .before .before .before .before .before .before .before .before .before .before .before .before .before .push-close .kept .1 .1 .1 .1 .1 .0
+same-length-2 c =
+    let at-push-child = c .before .before .before .before .before .before .before .before in
+    let at-push-close = at-push-child .before .before .before .before .before .before .before .before .before .before in
+    at-push-child .push-child .kept .1 .1 .1 .1 .1 .0 ∙ at-push-close .push-close .kept .1 .1 .1 .1 .1 .0
 
 same-length-3 : tie.Need-same-length-3
-same-length-3 c = c .before .before .before .before .before .before .before .before .push-child .kept .1 .1 .1 .1 .1 .1 .0 ∙ c .before .before .before .before .before .before .before .before .before .before .before .before .before .before .before .before .before .before .push-close .kept .1 .1 .1 .1 .1 .1 .0
+same-length-3 c =
+    let at-push-child = c .before .before .before .before .before .before .before .before in
+    let at-push-close = at-push-child .before .before .before .before .before .before .before .before .before .before in
+    at-push-child .push-child .kept .1 .1 .1 .1 .1 .1 .0 ∙ at-push-close .push-close .kept .1 .1 .1 .1 .1 .1 .0
 
 returns : tie.Need-returns
-returns c = regroup (then (c .before .before .before .before .before .before .before .before .before .before .before .before .before .before .before .before .before .before .push-close .ensures) (then (c .before .before .before .before .before .before .before .before .push-child .ensures) gives))
+returns c =
+    let at-push-child = c .before .before .before .before .before .before .before .before in
+    let at-push-close = at-push-child .before .before .before .before .before .before .before .before .before .before in
+    regroup (then (at-push-close .push-close .ensures) (then (at-push-child .push-child .ensures) gives))
 
 pub add-element-spec : {M : Type 1} → statement M
 add-element-spec =

@@ -12,17 +12,26 @@ binary-of-requires : tie.Need-binary-of-requires
 binary-of-requires c κs = search needs
 
 same-length : tie.Need-same-length
-same-length c = c .before .before .before .before .before .before .before .before .peek .kept .1 .1 .1 .1 .0
+same-length c =
+    let at-peek = c .before .before .before .before .before .before .before .before in
+    at-peek .peek .kept .1 .1 .1 .1 .0
 
 same-length-2 : tie.Need-same-length-2
-same-length-2 c = c .before .before .before .before .before .before .before .before .peek .kept .1 .1 .1 .1 .1 .0
+same-length-2 c =
+    let at-peek = c .before .before .before .before .before .before .before .before in
+    at-peek .peek .kept .1 .1 .1 .1 .1 .0
 
 same-length-3 : tie.Need-same-length-3
-same-length-3 c = c .before .before .before .before .before .before .before .before .peek .kept .1 .1 .1 .1 .1 .1 .0
+same-length-3 c =
+    let at-peek = c .before .before .before .before .before .before .before .before in
+    at-peek .peek .kept .1 .1 .1 .1 .1 .1 .0
 
 returns : tie.Need-returns
 unfolding checkBinaryOp
-returns c = then (c .before .before .before .before .before .before .before .before .peek .ensures) (rw (c .before .binary-of .ensures) gives)
+returns c =
+    let at-binary-of = c .before in
+    let at-peek = at-binary-of .before .before .before .before .before .before .before in
+    then (at-peek .peek .ensures) (rw (at-binary-of .binary-of .ensures) gives)
 
 pub check-binary-op-spec : {M : Type 1} → statement M
 check-binary-op-spec =

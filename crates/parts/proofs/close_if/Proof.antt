@@ -18,16 +18,40 @@ close-node-requires-2 : tie.Need-close-node-requires-2
 close-node-requires-2 c κs = search needs
 
 same-length : tie.Need-same-length
-same-length c = c .before .before .before .before .before .before .close-node2 .kept .1 .1 .1 .1 .0 ∙ c .before .before .before .before .before .before .before .before .before .before .before .before .before .before .before .before .push-closing .kept .1 .1 .1 .1 .0 ∙ c .before .before .before .before .before .before .before .before .before .before .before .before .before .before .before .before .before .before .before .before .before .before .before .before .before .before .push-child .kept .1 .1 .1 .1 .0 ∙ c .before .before .before .before .before .before .before .before .before .before .before .before .before .before .before .before .before .before .before .before .before .before .before .before .before .before .before .before .before .before .before .before .before .before .before .before .close-node .kept .1 .1 .1 .1 .0
+same-length c =
+    let at-close-node2 = c .before .before .before .before .before .before in
+    let at-push-closing = at-close-node2 .before .before .before .before .before .before .before .before .before .before in
+    let at-push-child = at-push-closing .before .before .before .before .before .before .before .before .before .before in
+    let at-close-node = at-push-child .before .before .before .before .before .before .before .before .before .before in
+    at-close-node2 .close-node2 .kept .1 .1 .1 .1 .0 ∙ at-push-closing .push-closing .kept .1 .1 .1 .1 .0
+    ∙ at-push-child .push-child .kept .1 .1 .1 .1 .0 ∙ at-close-node .close-node .kept .1 .1 .1 .1 .0
 
 same-length-2 : tie.Need-same-length-2
-same-length-2 c = c .before .before .before .before .before .before .close-node2 .kept .1 .1 .1 .1 .1 .0 ∙ c .before .before .before .before .before .before .before .before .before .before .before .before .before .before .before .before .push-closing .kept .1 .1 .1 .1 .1 .0 ∙ c .before .before .before .before .before .before .before .before .before .before .before .before .before .before .before .before .before .before .before .before .before .before .before .before .before .before .push-child .kept .1 .1 .1 .1 .1 .0 ∙ c .before .before .before .before .before .before .before .before .before .before .before .before .before .before .before .before .before .before .before .before .before .before .before .before .before .before .before .before .before .before .before .before .before .before .before .before .close-node .kept .1 .1 .1 .1 .1 .0
+same-length-2 c =
+    let at-close-node2 = c .before .before .before .before .before .before in
+    let at-push-closing = at-close-node2 .before .before .before .before .before .before .before .before .before .before in
+    let at-push-child = at-push-closing .before .before .before .before .before .before .before .before .before .before in
+    let at-close-node = at-push-child .before .before .before .before .before .before .before .before .before .before in
+    at-close-node2 .close-node2 .kept .1 .1 .1 .1 .1 .0 ∙ at-push-closing .push-closing .kept .1 .1 .1 .1 .1 .0
+    ∙ at-push-child .push-child .kept .1 .1 .1 .1 .1 .0 ∙ at-close-node .close-node .kept .1 .1 .1 .1 .1 .0
 
 same-length-3 : tie.Need-same-length-3
-same-length-3 c = c .before .before .before .before .before .before .close-node2 .kept .1 .1 .1 .1 .1 .1 .0 ∙ c .before .before .before .before .before .before .before .before .before .before .before .before .before .before .before .before .push-closing .kept .1 .1 .1 .1 .1 .1 .0 ∙ c .before .before .before .before .before .before .before .before .before .before .before .before .before .before .before .before .before .before .before .before .before .before .before .before .before .before .push-child .kept .1 .1 .1 .1 .1 .1 .0 ∙ c .before .before .before .before .before .before .before .before .before .before .before .before .before .before .before .before .before .before .before .before .before .before .before .before .before .before .before .before .before .before .before .before .before .before .before .before .close-node .kept .1 .1 .1 .1 .1 .1 .0
+same-length-3 c =
+    let at-close-node2 = c .before .before .before .before .before .before in
+    let at-push-closing = at-close-node2 .before .before .before .before .before .before .before .before .before .before in
+    let at-push-child = at-push-closing .before .before .before .before .before .before .before .before .before .before in
+    let at-close-node = at-push-child .before .before .before .before .before .before .before .before .before .before in
+    at-close-node2 .close-node2 .kept .1 .1 .1 .1 .1 .1 .0 ∙ at-push-closing .push-closing .kept .1 .1 .1 .1 .1 .1 .0
+    ∙ at-push-child .push-child .kept .1 .1 .1 .1 .1 .1 .0 ∙ at-close-node .close-node .kept .1 .1 .1 .1 .1 .1 .0
 
 returns : tie.Need-returns
-returns c = then (c .before .before .before .before .before .before .before .before .before .before .before .before .before .before .before .before .before .before .before .before .before .before .before .before .before .before .before .before .before .before .before .before .before .before .before .before .close-node .ensures) (then (c .before .before .before .before .before .before .before .before .before .before .before .before .before .before .before .before .before .before .before .before .before .before .before .before .before .before .push-child .ensures) (then (c .before .before .before .before .before .before .before .before .before .before .before .before .before .before .before .before .push-closing .ensures) (c .before .before .before .before .before .before .close-node2 .ensures)))
+returns c =
+    let at-close-node2 = c .before .before .before .before .before .before in
+    let at-push-closing = at-close-node2 .before .before .before .before .before .before .before .before .before .before in
+    let at-push-child = at-push-closing .before .before .before .before .before .before .before .before .before .before in
+    let at-close-node = at-push-child .before .before .before .before .before .before .before .before .before .before in
+    then (at-close-node .close-node .ensures) (then (at-push-child .push-child .ensures)
+    (then (at-push-closing .push-closing .ensures) (at-close-node2 .close-node2 .ensures)))
 
 pub close-if-spec : {M : Type 1} → statement M
 close-if-spec =

@@ -19,17 +19,41 @@ push-close-requires : tie.Need-push-close-requires
 push-close-requires c κs = search needs
 
 same-length : tie.Need-same-length
-same-length c = c .before .before .before .before .before .before .push-close .kept .1 .1 .1 .1 .0 ∙ c .before .before .before .before .before .before .before .before .before .before .before .before .before .before .before .before .access-name .kept .1 .1 .1 .1 .0 ∙ c .before .before .before .before .before .before .before .before .before .before .before .before .before .before .before .before .before .before .before .before .before .before .before .before .before .before .push-child .kept .1 .1 .1 .1 .0 ∙ c .before .before .before .before .before .before .before .before .before .before .before .before .before .before .before .before .before .before .before .before .before .before .before .before .before .before .before .before .before .before .before .before .before .before .before .before .open-from .kept .1 .1 .1 .1 .0
+same-length c =
+    let at-push-close = c .before .before .before .before .before .before in
+    let at-access-name = at-push-close .before .before .before .before .before .before .before .before .before .before in
+    let at-push-child = at-access-name .before .before .before .before .before .before .before .before .before .before in
+    let at-open-from = at-push-child .before .before .before .before .before .before .before .before .before .before in
+    at-push-close .push-close .kept .1 .1 .1 .1 .0 ∙ at-access-name .access-name .kept .1 .1 .1 .1 .0
+    ∙ at-push-child .push-child .kept .1 .1 .1 .1 .0 ∙ at-open-from .open-from .kept .1 .1 .1 .1 .0
 
 same-length-2 : tie.Need-same-length-2
-same-length-2 c = c .before .before .before .before .before .before .push-close .kept .1 .1 .1 .1 .1 .0 ∙ c .before .before .before .before .before .before .before .before .before .before .before .before .before .before .before .before .access-name .kept .1 .1 .1 .1 .1 .0 ∙ c .before .before .before .before .before .before .before .before .before .before .before .before .before .before .before .before .before .before .before .before .before .before .before .before .before .before .push-child .kept .1 .1 .1 .1 .1 .0 ∙ c .before .before .before .before .before .before .before .before .before .before .before .before .before .before .before .before .before .before .before .before .before .before .before .before .before .before .before .before .before .before .before .before .before .before .before .before .open-from .kept .1 .1 .1 .1 .1 .0
+same-length-2 c =
+    let at-push-close = c .before .before .before .before .before .before in
+    let at-access-name = at-push-close .before .before .before .before .before .before .before .before .before .before in
+    let at-push-child = at-access-name .before .before .before .before .before .before .before .before .before .before in
+    let at-open-from = at-push-child .before .before .before .before .before .before .before .before .before .before in
+    at-push-close .push-close .kept .1 .1 .1 .1 .1 .0 ∙ at-access-name .access-name .kept .1 .1 .1 .1 .1 .0
+    ∙ at-push-child .push-child .kept .1 .1 .1 .1 .1 .0 ∙ at-open-from .open-from .kept .1 .1 .1 .1 .1 .0
 
 same-length-3 : tie.Need-same-length-3
-same-length-3 c = c .before .before .before .before .before .before .push-close .kept .1 .1 .1 .1 .1 .1 .0 ∙ c .before .before .before .before .before .before .before .before .before .before .before .before .before .before .before .before .access-name .kept .1 .1 .1 .1 .1 .1 .0 ∙ c .before .before .before .before .before .before .before .before .before .before .before .before .before .before .before .before .before .before .before .before .before .before .before .before .before .before .push-child .kept .1 .1 .1 .1 .1 .1 .0 ∙ c .before .before .before .before .before .before .before .before .before .before .before .before .before .before .before .before .before .before .before .before .before .before .before .before .before .before .before .before .before .before .before .before .before .before .before .before .open-from .kept .1 .1 .1 .1 .1 .1 .0
+same-length-3 c =
+    let at-push-close = c .before .before .before .before .before .before in
+    let at-access-name = at-push-close .before .before .before .before .before .before .before .before .before .before in
+    let at-push-child = at-access-name .before .before .before .before .before .before .before .before .before .before in
+    let at-open-from = at-push-child .before .before .before .before .before .before .before .before .before .before in
+    at-push-close .push-close .kept .1 .1 .1 .1 .1 .1 .0 ∙ at-access-name .access-name .kept .1 .1 .1 .1 .1 .1 .0
+    ∙ at-push-child .push-child .kept .1 .1 .1 .1 .1 .1 .0 ∙ at-open-from .open-from .kept .1 .1 .1 .1 .1 .1 .0
 
 returns : tie.Need-returns
 unfolding memberExpr
-returns c = then (c .before .before .before .before .before .before .before .before .before .before .before .before .before .before .before .before .before .before .before .before .before .before .before .before .before .before .before .before .before .before .before .before .before .before .before .before .open-from .ensures) (then (c .before .before .before .before .before .before .before .before .before .before .before .before .before .before .before .before .before .before .before .before .before .before .before .before .before .before .push-child .ensures) (then (c .before .before .before .before .before .before .before .before .before .before .before .before .before .before .before .before .access-name .ensures) (c .before .before .before .before .before .before .push-close .ensures)))
+returns c =
+    let at-push-close = c .before .before .before .before .before .before in
+    let at-access-name = at-push-close .before .before .before .before .before .before .before .before .before .before in
+    let at-push-child = at-access-name .before .before .before .before .before .before .before .before .before .before in
+    let at-open-from = at-push-child .before .before .before .before .before .before .before .before .before .before in
+    then (at-open-from .open-from .ensures) (then (at-push-child .push-child .ensures)
+    (then (at-access-name .access-name .ensures) (at-push-close .push-close .ensures)))
 
 pub member-expr-spec : {M : Type 1} → statement M
 member-expr-spec =

@@ -24,16 +24,51 @@ push-child-requires-2 : tie.Need-push-child-requires-2
 push-child-requires-2 c κs = search needs
 
 same-length : tie.Need-same-length
-same-length c = c .before .before .before .before .before .before .push-child2 .kept .1 .1 .1 .1 .0 ∙ c .before .before .before .before .before .before .before .before .before .before .before .before .before .before .before .before .push-child .kept .1 .1 .1 .1 .0 ∙ c .before .before .before .before .before .before .before .before .before .before .before .before .before .before .before .before .before .before .before .before .before .before .before .before .before .before .open-from .kept .1 .1 .1 .1 .0 ∙ c .before .before .before .before .before .before .before .before .before .before .before .before .before .before .before .before .before .before .before .before .before .before .before .before .before .before .before .before .before .before .before .before .before .before .before .before .close-node .kept .1 .1 .1 .1 .0 ∙ c .before .before .before .before .before .before .before .before .before .before .before .before .before .before .before .before .before .before .before .before .before .before .before .before .before .before .before .before .before .before .before .before .before .before .before .before .before .before .before .before .before .before .before .before .before .before .pass .kept .1 .1 .1 .1 .0 ∙ c .before .before .before .before .before .before .before .before .before .before .before .before .before .before .before .before .before .before .before .before .before .before .before .before .before .before .before .before .before .before .before .before .before .before .before .before .before .before .before .before .before .before .before .before .before .before .before .before .before .before .before .before .before .before .before .before .open-here .kept .1 .1 .1 .1 .0
+same-length c =
+    let at-push-child2 = c .before .before .before .before .before .before in
+    let at-push-child = at-push-child2 .before .before .before .before .before .before .before .before .before .before in
+    let at-open-from = at-push-child .before .before .before .before .before .before .before .before .before .before in
+    let at-close-node = at-open-from .before .before .before .before .before .before .before .before .before .before in
+    let at-pass = at-close-node .before .before .before .before .before .before .before .before .before .before in
+    let at-open-here = at-pass .before .before .before .before .before .before .before .before .before .before in
+    at-push-child2 .push-child2 .kept .1 .1 .1 .1 .0 ∙ at-push-child .push-child .kept .1 .1 .1 .1 .0 ∙ at-open-from .open-from .kept .1 .1 .1 .1 .0
+    ∙ at-close-node .close-node .kept .1 .1 .1 .1 .0 ∙ at-pass .pass .kept .1 .1 .1 .1 .0 ∙ at-open-here .open-here .kept .1 .1 .1 .1 .0
 
 same-length-2 : tie.Need-same-length-2
-same-length-2 c = c .before .before .before .before .before .before .push-child2 .kept .1 .1 .1 .1 .1 .0 ∙ c .before .before .before .before .before .before .before .before .before .before .before .before .before .before .before .before .push-child .kept .1 .1 .1 .1 .1 .0 ∙ c .before .before .before .before .before .before .before .before .before .before .before .before .before .before .before .before .before .before .before .before .before .before .before .before .before .before .open-from .kept .1 .1 .1 .1 .1 .0 ∙ c .before .before .before .before .before .before .before .before .before .before .before .before .before .before .before .before .before .before .before .before .before .before .before .before .before .before .before .before .before .before .before .before .before .before .before .before .close-node .kept .1 .1 .1 .1 .1 .0 ∙ c .before .before .before .before .before .before .before .before .before .before .before .before .before .before .before .before .before .before .before .before .before .before .before .before .before .before .before .before .before .before .before .before .before .before .before .before .before .before .before .before .before .before .before .before .before .before .pass .kept .1 .1 .1 .1 .1 .0 ∙ c .before .before .before .before .before .before .before .before .before .before .before .before .before .before .before .before .before .before .before .before .before .before .before .before .before .before .before .before .before .before .before .before .before .before .before .before .before .before .before .before .before .before .before .before .before .before .before .before .before .before .before .before .before .before .before .before .open-here .kept .1 .1 .1 .1 .1 .0
+same-length-2 c =
+    let at-push-child2 = c .before .before .before .before .before .before in
+    let at-push-child = at-push-child2 .before .before .before .before .before .before .before .before .before .before in
+    let at-open-from = at-push-child .before .before .before .before .before .before .before .before .before .before in
+    let at-close-node = at-open-from .before .before .before .before .before .before .before .before .before .before in
+    let at-pass = at-close-node .before .before .before .before .before .before .before .before .before .before in
+    let at-open-here = at-pass .before .before .before .before .before .before .before .before .before .before in
+    at-push-child2 .push-child2 .kept .1 .1 .1 .1 .1 .0 ∙ at-push-child .push-child .kept .1 .1 .1 .1 .1 .0
+    ∙ at-open-from .open-from .kept .1 .1 .1 .1 .1 .0 ∙ at-close-node .close-node .kept .1 .1 .1 .1 .1 .0 ∙ at-pass .pass .kept .1 .1 .1 .1 .1 .0
+    ∙ at-open-here .open-here .kept .1 .1 .1 .1 .1 .0
 
 same-length-3 : tie.Need-same-length-3
-same-length-3 c = c .before .before .before .before .before .before .push-child2 .kept .1 .1 .1 .1 .1 .1 .0 ∙ c .before .before .before .before .before .before .before .before .before .before .before .before .before .before .before .before .push-child .kept .1 .1 .1 .1 .1 .1 .0 ∙ c .before .before .before .before .before .before .before .before .before .before .before .before .before .before .before .before .before .before .before .before .before .before .before .before .before .before .open-from .kept .1 .1 .1 .1 .1 .1 .0 ∙ c .before .before .before .before .before .before .before .before .before .before .before .before .before .before .before .before .before .before .before .before .before .before .before .before .before .before .before .before .before .before .before .before .before .before .before .before .close-node .kept .1 .1 .1 .1 .1 .1 .0 ∙ c .before .before .before .before .before .before .before .before .before .before .before .before .before .before .before .before .before .before .before .before .before .before .before .before .before .before .before .before .before .before .before .before .before .before .before .before .before .before .before .before .before .before .before .before .before .before .pass .kept .1 .1 .1 .1 .1 .1 .0 ∙ c .before .before .before .before .before .before .before .before .before .before .before .before .before .before .before .before .before .before .before .before .before .before .before .before .before .before .before .before .before .before .before .before .before .before .before .before .before .before .before .before .before .before .before .before .before .before .before .before .before .before .before .before .before .before .before .before .open-here .kept .1 .1 .1 .1 .1 .1 .0
+same-length-3 c =
+    let at-push-child2 = c .before .before .before .before .before .before in
+    let at-push-child = at-push-child2 .before .before .before .before .before .before .before .before .before .before in
+    let at-open-from = at-push-child .before .before .before .before .before .before .before .before .before .before in
+    let at-close-node = at-open-from .before .before .before .before .before .before .before .before .before .before in
+    let at-pass = at-close-node .before .before .before .before .before .before .before .before .before .before in
+    let at-open-here = at-pass .before .before .before .before .before .before .before .before .before .before in
+    at-push-child2 .push-child2 .kept .1 .1 .1 .1 .1 .1 .0 ∙ at-push-child .push-child .kept .1 .1 .1 .1 .1 .1 .0
+    ∙ at-open-from .open-from .kept .1 .1 .1 .1 .1 .1 .0 ∙ at-close-node .close-node .kept .1 .1 .1 .1 .1 .1 .0
+    ∙ at-pass .pass .kept .1 .1 .1 .1 .1 .1 .0 ∙ at-open-here .open-here .kept .1 .1 .1 .1 .1 .1 .0
 
 returns : tie.Need-returns
-returns c = then (c .before .before .before .before .before .before .before .before .before .before .before .before .before .before .before .before .before .before .before .before .before .before .before .before .before .before .before .before .before .before .before .before .before .before .before .before .before .before .before .before .before .before .before .before .before .before .before .before .before .before .before .before .before .before .before .before .open-here .ensures) (then (c .before .before .before .before .before .before .before .before .before .before .before .before .before .before .before .before .before .before .before .before .before .before .before .before .before .before .before .before .before .before .before .before .before .before .before .before .before .before .before .before .before .before .before .before .before .before .pass .ensures) (then (c .before .before .before .before .before .before .before .before .before .before .before .before .before .before .before .before .before .before .before .before .before .before .before .before .before .before .before .before .before .before .before .before .before .before .before .before .close-node .ensures) (then (c .before .before .before .before .before .before .before .before .before .before .before .before .before .before .before .before .before .before .before .before .before .before .before .before .before .before .open-from .ensures) (then (c .before .before .before .before .before .before .before .before .before .before .before .before .before .before .before .before .push-child .ensures) (c .before .before .before .before .before .before .push-child2 .ensures)))))
+returns c =
+    let at-push-child2 = c .before .before .before .before .before .before in
+    let at-push-child = at-push-child2 .before .before .before .before .before .before .before .before .before .before in
+    let at-open-from = at-push-child .before .before .before .before .before .before .before .before .before .before in
+    let at-close-node = at-open-from .before .before .before .before .before .before .before .before .before .before in
+    let at-pass = at-close-node .before .before .before .before .before .before .before .before .before .before in
+    let at-open-here = at-pass .before .before .before .before .before .before .before .before .before .before in
+    then (at-open-here .open-here .ensures) (then (at-pass .pass .ensures)
+    (then (at-close-node .close-node .ensures) (then (at-open-from .open-from .ensures)
+    (then (at-push-child .push-child .ensures) (at-push-child2 .push-child2 .ensures)))))
 
 pub open-binary-spec : {M : Type 1} → statement M
 open-binary-spec =

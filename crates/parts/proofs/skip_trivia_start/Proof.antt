@@ -10,17 +10,25 @@ peek-requires : tie.Need-peek-requires
 peek-requires c κs = search needs
 
 same-length : tie.Need-same-length
-same-length c = c .before .before .before .before .before .before .before .before .before .peek .kept .1 .1 .1 .1 .0
+same-length c =
+    let at-peek = c .before .before .before .before .before .before .before .before .before in
+    at-peek .peek .kept .1 .1 .1 .1 .0
 
 same-length-2 : tie.Need-same-length-2
-same-length-2 c = c .before .before .before .before .before .before .before .before .before .peek .kept .1 .1 .1 .1 .1 .0
+same-length-2 c =
+    let at-peek = c .before .before .before .before .before .before .before .before .before in
+    at-peek .peek .kept .1 .1 .1 .1 .1 .0
 
 same-length-3 : tie.Need-same-length-3
-same-length-3 c = c .before .before .before .before .before .before .before .before .before .peek .kept .1 .1 .1 .1 .1 .1 .0
+same-length-3 c =
+    let at-peek = c .before .before .before .before .before .before .before .before .before in
+    at-peek .peek .kept .1 .1 .1 .1 .1 .1 .0
 
 returns : tie.Need-returns
 unfolding skipTriviaStart
-returns c = then (c .before .before .before .before .before .before .before .before .before .peek .ensures) position-is
+returns c =
+    let at-peek = c .before .before .before .before .before .before .before .before .before in
+    then (at-peek .peek .ensures) position-is
 
 pub skip-trivia-start-spec : {M : Type 1} → statement M
 skip-trivia-start-spec =

@@ -23,17 +23,30 @@ unfolding unwrapOrError
 returns c = rw (c .before .found .given .1) gives
 
 same-length : tie.Need-same-length
-same-length c = c .before .before .before .before .before .before .error-node .kept .1 .1 .1 .1 .0 ∙ c .before .before .before .before .before .before .before .before .before .before .before .before .before .before .before .before .emit-unexpected .kept .1 .1 .1 .1 .0
+same-length c =
+    let at-error-node = c .before .before .before .before .before .before in
+    let at-emit-unexpected = at-error-node .before .before .before .before .before .before .before .before .before .before in
+    at-error-node .error-node .kept .1 .1 .1 .1 .0 ∙ at-emit-unexpected .emit-unexpected .kept .1 .1 .1 .1 .0
 
 same-length-2 : tie.Need-same-length-2
-same-length-2 c = c .before .before .before .before .before .before .error-node .kept .1 .1 .1 .1 .1 .0 ∙ c .before .before .before .before .before .before .before .before .before .before .before .before .before .before .before .before .emit-unexpected .kept .1 .1 .1 .1 .1 .0
+same-length-2 c =
+    let at-error-node = c .before .before .before .before .before .before in
+    let at-emit-unexpected = at-error-node .before .before .before .before .before .before .before .before .before .before in
+    at-error-node .error-node .kept .1 .1 .1 .1 .1 .0 ∙ at-emit-unexpected .emit-unexpected .kept .1 .1 .1 .1 .1 .0
 
 same-length-3 : tie.Need-same-length-3
-same-length-3 c = c .before .before .before .before .before .before .error-node .kept .1 .1 .1 .1 .1 .1 .0 ∙ c .before .before .before .before .before .before .before .before .before .before .before .before .before .before .before .before .emit-unexpected .kept .1 .1 .1 .1 .1 .1 .0
+same-length-3 c =
+    let at-error-node = c .before .before .before .before .before .before in
+    let at-emit-unexpected = at-error-node .before .before .before .before .before .before .before .before .before .before in
+    at-error-node .error-node .kept .1 .1 .1 .1 .1 .1 .0 ∙ at-emit-unexpected .emit-unexpected .kept .1 .1 .1 .1 .1 .1 .0
 
 returns-2 : tie.Need-returns-2
 unfolding unwrapOrError
-returns-2 c = rw (c .before .before .before .before .before .before .before .before .before .before .before .before .before .before .before .before .before .before .before .before .enum-told .given .1) (then (c .before .before .before .before .before .before .before .before .before .before .before .before .before .before .before .before .emit-unexpected .ensures) (c .before .before .before .before .before .before .error-node .ensures))
+returns-2 c =
+    let at-error-node = c .before .before .before .before .before .before in
+    let at-emit-unexpected = at-error-node .before .before .before .before .before .before .before .before .before .before in
+    let at-enum-told = at-emit-unexpected .before .before .before .before in
+    rw (at-enum-told .enum-told .given .1) (then (at-emit-unexpected .emit-unexpected .ensures) (at-error-node .error-node .ensures))
 
 pub unwrap-or-error-spec : {M : Type 1} → statement M
 unwrap-or-error-spec =

@@ -1,7 +1,7 @@
 -- `emit_missing` meets its contract.
 use mathlib.Core.Path.{_∙_}
 use mathlib.Core.Path.{refl, sym}
-use Rattle.reading.specs.Does.{then, gives, when-true, when-false}
+use Rattle.reading.specs.Does.{then, when-true, when-false}
 use Rattle.stream.specs.Commands.{position-is, before-is}
 use borrow.Author.Needs.{needs}
 use Rattle.recovery.proofs.emit_missing.Statement.{statement}
@@ -23,33 +23,63 @@ emit-and-mark-requires : tie.Need-emit-and-mark-requires
 emit-and-mark-requires c κs = search needs
 
 same-length : tie.Need-same-length
-same-length c = c .before .before .before .before .before .before .emit-and-mark .kept .1 .1 .1 .1 .0 ∙ c .before .before .before .before .before .before .before .before .before .before .before .before .before .before .before .before .before .before .before .before .before .before .before .peek .kept .1 .1 .1 .1 .0
+same-length c =
+    let at-emit-and-mark = c .before .before .before .before .before .before in
+    let at-peek = at-emit-and-mark .before .before .before .before .before .before .before .before .before .before .before .before .before .before .before .before .before in
+    at-emit-and-mark .emit-and-mark .kept .1 .1 .1 .1 .0 ∙ at-peek .peek .kept .1 .1 .1 .1 .0
 
 same-length-2 : tie.Need-same-length-2
-same-length-2 c = c .before .before .before .before .before .before .emit-and-mark .kept .1 .1 .1 .1 .1 .0 ∙ c .before .before .before .before .before .before .before .before .before .before .before .before .before .before .before .before .before .before .before .before .before .before .before .peek .kept .1 .1 .1 .1 .1 .0
+same-length-2 c =
+    let at-emit-and-mark = c .before .before .before .before .before .before in
+    let at-peek = at-emit-and-mark .before .before .before .before .before .before .before .before .before .before .before .before .before .before .before .before .before in
+    at-emit-and-mark .emit-and-mark .kept .1 .1 .1 .1 .1 .0 ∙ at-peek .peek .kept .1 .1 .1 .1 .1 .0
 
 same-length-3 : tie.Need-same-length-3
-same-length-3 c = c .before .before .before .before .before .before .emit-and-mark .kept .1 .1 .1 .1 .1 .1 .0 ∙ c .before .before .before .before .before .before .before .before .before .before .before .before .before .before .before .before .before .before .before .before .before .before .before .peek .kept .1 .1 .1 .1 .1 .1 .0
+same-length-3 c =
+    let at-emit-and-mark = c .before .before .before .before .before .before in
+    let at-peek = at-emit-and-mark .before .before .before .before .before .before .before .before .before .before .before .before .before .before .before .before .before in
+    at-emit-and-mark .emit-and-mark .kept .1 .1 .1 .1 .1 .1 .0 ∙ at-peek .peek .kept .1 .1 .1 .1 .1 .1 .0
 
 returns : tie.Need-returns
 returns c =
-    then (c .before .before .before .before .before .before .before .before .before .before .before .before .before .before .before .before .before .before .before .before .before .before .before .peek .ensures) (then (position-is refl) (when-true (sym (c .before .before .before .before .before .before .before .before .before .before .before .before .before .is-missing .ensures) ∙ c .before .before .before .before .before .before .before .before .before .before .before .before .if1 .taken)
-    (then (before-is (c .before .before .before .before .before .before .before .before .before .before .before .before-start .ensures) (c .before .before .before .before .before .before .before .token-start .ensures)) (c .before .before .before .before .before .before .emit-and-mark .ensures))))
+    let at-emit-and-mark = c .before .before .before .before .before .before in
+    let at-token-start = at-emit-and-mark .before in
+    let at-before-start = at-token-start .before .before .before .before in
+    let at-if1 = at-before-start .before in
+    let at-is-missing = at-if1 .before in
+    let at-peek = at-is-missing .before .before .before .before .before .before .before .before .before .before in
+    then (at-peek .peek .ensures) (then (position-is refl) (when-true (sym (at-is-missing .is-missing .ensures) ∙ at-if1 .if1 .taken)
+    (then (before-is (at-before-start .before-start .ensures) (at-token-start .token-start .ensures)) (at-emit-and-mark .emit-and-mark .ensures))))
 
 emit-unexpected-requires : tie.Need-emit-unexpected-requires
 emit-unexpected-requires c κs = search needs
 
 same-length-4 : tie.Need-same-length-4
-same-length-4 c = c .before .before .before .before .before .before .emit-unexpected .kept .1 .1 .1 .1 .0 ∙ c .before .before .before .before .before .before .before .before .before .before .before .before .before .before .before .before .before .before .before .before .before .peek .kept .1 .1 .1 .1 .0
+same-length-4 c =
+    let at-emit-unexpected = c .before .before .before .before .before .before in
+    let at-peek = at-emit-unexpected .before .before .before .before .before .before .before .before .before .before .before .before .before .before .before in
+    at-emit-unexpected .emit-unexpected .kept .1 .1 .1 .1 .0 ∙ at-peek .peek .kept .1 .1 .1 .1 .0
 
 same-length-5 : tie.Need-same-length-5
-same-length-5 c = c .before .before .before .before .before .before .emit-unexpected .kept .1 .1 .1 .1 .1 .0 ∙ c .before .before .before .before .before .before .before .before .before .before .before .before .before .before .before .before .before .before .before .before .before .peek .kept .1 .1 .1 .1 .1 .0
+same-length-5 c =
+    let at-emit-unexpected = c .before .before .before .before .before .before in
+    let at-peek = at-emit-unexpected .before .before .before .before .before .before .before .before .before .before .before .before .before .before .before in
+    at-emit-unexpected .emit-unexpected .kept .1 .1 .1 .1 .1 .0 ∙ at-peek .peek .kept .1 .1 .1 .1 .1 .0
 
 same-length-6 : tie.Need-same-length-6
-same-length-6 c = c .before .before .before .before .before .before .emit-unexpected .kept .1 .1 .1 .1 .1 .1 .0 ∙ c .before .before .before .before .before .before .before .before .before .before .before .before .before .before .before .before .before .before .before .before .before .peek .kept .1 .1 .1 .1 .1 .1 .0
+same-length-6 c =
+    let at-emit-unexpected = c .before .before .before .before .before .before in
+    let at-peek = at-emit-unexpected .before .before .before .before .before .before .before .before .before .before .before .before .before .before .before in
+    at-emit-unexpected .emit-unexpected .kept .1 .1 .1 .1 .1 .1 .0 ∙ at-peek .peek .kept .1 .1 .1 .1 .1 .1 .0
 
 returns-2 : tie.Need-returns-2
-returns-2 c = then (c .before .before .before .before .before .before .before .before .before .before .before .before .before .before .before .before .before .before .before .before .before .peek .ensures) (then (position-is refl) (when-false (sym (c .before .before .before .before .before .before .before .before .before .before .before .is-missing .ensures) ∙ c .before .before .before .before .before .before .before .before .before .before .if1 .left) (c .before .before .before .before .before .before .emit-unexpected .ensures)))
+returns-2 c =
+    let at-emit-unexpected = c .before .before .before .before .before .before in
+    let at-if1 = at-emit-unexpected .before .before .before .before in
+    let at-is-missing = at-if1 .before in
+    let at-peek = at-is-missing .before .before .before .before .before .before .before .before .before .before in
+    then (at-peek .peek .ensures) (then (position-is refl)
+    (when-false (sym (at-is-missing .is-missing .ensures) ∙ at-if1 .if1 .left) (at-emit-unexpected .emit-unexpected .ensures)))
 
 pub emit-missing-spec : {M : Type 1} → statement M
 emit-missing-spec =

@@ -16,17 +16,29 @@ either-requires : tie.Need-either-requires
 either-requires c κs = search needs
 
 same-length : tie.Need-same-length
-same-length c = c .before .before .before .before .before .before .before .before .eof .kept .1 .1 .1 .1 .0 ∙ c .before .before .before .before .before .before .before .before .before .before .before .before .before .before .before .before .before .before .before .check .kept .1 .1 .1 .1 .0
+same-length c =
+    let at-eof = c .before .before .before .before .before .before .before .before in
+    let at-check = at-eof .before .before .before .before .before .before .before .before .before .before .before in
+    at-eof .eof .kept .1 .1 .1 .1 .0 ∙ at-check .check .kept .1 .1 .1 .1 .0
 
 same-length-2 : tie.Need-same-length-2
-same-length-2 c = c .before .before .before .before .before .before .before .before .eof .kept .1 .1 .1 .1 .1 .0 ∙ c .before .before .before .before .before .before .before .before .before .before .before .before .before .before .before .before .before .before .before .check .kept .1 .1 .1 .1 .1 .0
+same-length-2 c =
+    let at-eof = c .before .before .before .before .before .before .before .before in
+    let at-check = at-eof .before .before .before .before .before .before .before .before .before .before .before in
+    at-eof .eof .kept .1 .1 .1 .1 .1 .0 ∙ at-check .check .kept .1 .1 .1 .1 .1 .0
 
 same-length-3 : tie.Need-same-length-3
-same-length-3 c = c .before .before .before .before .before .before .before .before .eof .kept .1 .1 .1 .1 .1 .1 .0 ∙ c .before .before .before .before .before .before .before .before .before .before .before .before .before .before .before .before .before .before .before .check .kept .1 .1 .1 .1 .1 .1 .0
+same-length-3 c =
+    let at-eof = c .before .before .before .before .before .before .before .before in
+    let at-check = at-eof .before .before .before .before .before .before .before .before .before .before .before in
+    at-eof .eof .kept .1 .1 .1 .1 .1 .1 .0 ∙ at-check .check .kept .1 .1 .1 .1 .1 .1 .0
 
 returns : tie.Need-returns
 unfolding listEnds
-returns c = then (c .before .before .before .before .before .before .before .before .before .before .before .before .before .before .before .before .before .before .before .check .ensures) (then (c .before .before .before .before .before .before .before .before .eof .ensures) (rw (c .either .ensures) gives))
+returns c =
+    let at-eof = c .before .before .before .before .before .before .before .before in
+    let at-check = at-eof .before .before .before .before .before .before .before .before .before .before .before in
+    then (at-check .check .ensures) (then (at-eof .eof .ensures) (rw (c .either .ensures) gives))
 
 pub list-ends-spec : {M : Type 1} → statement M
 list-ends-spec =

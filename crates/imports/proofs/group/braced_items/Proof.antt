@@ -17,16 +17,34 @@ expect-requires-2 : tie.Need-expect-requires-2
 expect-requires-2 c = search needs
 
 same-length : tie.Need-same-length
-same-length c = c .before .before .before .before .before .before .before .before .expect2 .kept .1 .1 .1 .1 .0 ∙ c .before .before .before .before .before .before .before .before .before .before .before .before .before .before .before .before .before .before .group-items .kept .1 .1 .1 .1 .0 ∙ c .before .before .before .before .before .before .before .before .before .before .before .before .before .before .before .before .before .before .before .before .before .before .before .before .before .before .before .before .expect .kept .1 .1 .1 .1 .0
+same-length c =
+    let at-expect2 = c .before .before .before .before .before .before .before .before in
+    let at-group-items = at-expect2 .before .before .before .before .before .before .before .before .before .before in
+    let at-expect = at-group-items .before .before .before .before .before .before .before .before .before .before in
+    at-expect2 .expect2 .kept .1 .1 .1 .1 .0 ∙ at-group-items .group-items .kept .1 .1 .1 .1 .0 ∙ at-expect .expect .kept .1 .1 .1 .1 .0
 
 same-length-2 : tie.Need-same-length-2
-same-length-2 c = c .before .before .before .before .before .before .before .before .expect2 .kept .1 .1 .1 .1 .1 .0 ∙ c .before .before .before .before .before .before .before .before .before .before .before .before .before .before .before .before .before .before .group-items .kept .1 .1 .1 .1 .1 .0 ∙ c .before .before .before .before .before .before .before .before .before .before .before .before .before .before .before .before .before .before .before .before .before .before .before .before .before .before .before .before .expect .kept .1 .1 .1 .1 .1 .0
+same-length-2 c =
+    let at-expect2 = c .before .before .before .before .before .before .before .before in
+    let at-group-items = at-expect2 .before .before .before .before .before .before .before .before .before .before in
+    let at-expect = at-group-items .before .before .before .before .before .before .before .before .before .before in
+    at-expect2 .expect2 .kept .1 .1 .1 .1 .1 .0 ∙ at-group-items .group-items .kept .1 .1 .1 .1 .1 .0 ∙ at-expect .expect .kept .1 .1 .1 .1 .1 .0
 
 same-length-3 : tie.Need-same-length-3
-same-length-3 c = c .before .before .before .before .before .before .before .before .expect2 .kept .1 .1 .1 .1 .1 .1 .0 ∙ c .before .before .before .before .before .before .before .before .before .before .before .before .before .before .before .before .before .before .group-items .kept .1 .1 .1 .1 .1 .1 .0 ∙ c .before .before .before .before .before .before .before .before .before .before .before .before .before .before .before .before .before .before .before .before .before .before .before .before .before .before .before .before .expect .kept .1 .1 .1 .1 .1 .1 .0
+same-length-3 c =
+    let at-expect2 = c .before .before .before .before .before .before .before .before in
+    let at-group-items = at-expect2 .before .before .before .before .before .before .before .before .before .before in
+    let at-expect = at-group-items .before .before .before .before .before .before .before .before .before .before in
+    at-expect2 .expect2 .kept .1 .1 .1 .1 .1 .1 .0 ∙ at-group-items .group-items .kept .1 .1 .1 .1 .1 .1 .0
+    ∙ at-expect .expect .kept .1 .1 .1 .1 .1 .1 .0
 
 returns : tie.Need-returns
-returns c = list-within Token.LeftCurly Token.RightCurly Token.Comma groupItem _ (c .before .before .before .before .before .before .before .before .before .before .before .before .before .before .before .before .before .before .before .before .before .before .before .before .before .before .before .before .expect .ensures) (c .before .before .before .before .before .before .before .before .before .before .before .before .before .before .before .before .before .before .group-items .ensures) (c .before .before .before .before .before .before .before .before .expect2 .ensures)
+returns c =
+    let at-expect2 = c .before .before .before .before .before .before .before .before in
+    let at-group-items = at-expect2 .before .before .before .before .before .before .before .before .before .before in
+    let at-expect = at-group-items .before .before .before .before .before .before .before .before .before .before in
+    list-within Token.LeftCurly Token.RightCurly Token.Comma groupItem _ (at-expect .expect .ensures) (at-group-items .group-items .ensures)
+    (at-expect2 .expect2 .ensures)
 
 pub braced-items-spec : {M : Type 1} → statement M
 braced-items-spec =

@@ -14,17 +14,33 @@ star-in-group-requires : tie.Need-star-in-group-requires
 star-in-group-requires c κs = search needs
 
 same-length : tie.Need-same-length
-same-length c = c .before .before .before .before .before .before .star-in-group .kept .1 .1 .1 .1 .0 ∙ c .before .before .before .before .before .before .before .before .before .before .before .before .before .before .before .before .before .before .eat .kept .1 .1 .1 .1 .0
+same-length c =
+    let at-star-in-group = c .before .before .before .before .before .before in
+    let at-eat = at-star-in-group .before .before .before .before .before .before .before .before .before .before .before .before in
+    at-star-in-group .star-in-group .kept .1 .1 .1 .1 .0 ∙ at-eat .eat .kept .1 .1 .1 .1 .0
 
 same-length-2 : tie.Need-same-length-2
-same-length-2 c = c .before .before .before .before .before .before .star-in-group .kept .1 .1 .1 .1 .1 .0 ∙ c .before .before .before .before .before .before .before .before .before .before .before .before .before .before .before .before .before .before .eat .kept .1 .1 .1 .1 .1 .0
+same-length-2 c =
+    let at-star-in-group = c .before .before .before .before .before .before in
+    let at-eat = at-star-in-group .before .before .before .before .before .before .before .before .before .before .before .before in
+    at-star-in-group .star-in-group .kept .1 .1 .1 .1 .1 .0 ∙ at-eat .eat .kept .1 .1 .1 .1 .1 .0
 
 same-length-3 : tie.Need-same-length-3
-same-length-3 c = c .before .before .before .before .before .before .star-in-group .kept .1 .1 .1 .1 .1 .1 .0 ∙ c .before .before .before .before .before .before .before .before .before .before .before .before .before .before .before .before .before .before .eat .kept .1 .1 .1 .1 .1 .1 .0
+same-length-3 c =
+    let at-star-in-group = c .before .before .before .before .before .before in
+    let at-eat = at-star-in-group .before .before .before .before .before .before .before .before .before .before .before .before in
+    at-star-in-group .star-in-group .kept .1 .1 .1 .1 .1 .1 .0 ∙ at-eat .eat .kept .1 .1 .1 .1 .1 .1 .0
 
 returns : tie.Need-returns
 unfolding groupItem
-returns c = record { is = λ n. then (c .before .before .before .before .before .before .before .before .before .before .before .before .before .before .before .before .before .before .eat .ensures) (when-true (c .before .before .before .before .before .before .before .before .before .before .if1 .taken) (regroup (then (c .before .before .before .before .before .before .star-in-group .ensures) gives))) }
+returns c =
+    let at-star-in-group = c .before .before .before .before .before .before in
+    let at-if1 = at-star-in-group .before .before .before .before in
+    let at-eat = at-if1 .before .before .before .before .before .before .before .before in
+    record {
+      is = λ n. then (at-eat .eat .ensures) (when-true (at-if1 .if1 .taken)
+          (regroup (then (at-star-in-group .star-in-group .ensures) gives)));
+    }
 
 check-requires : tie.Need-check-requires
 check-requires c κs = search needs
@@ -33,30 +49,67 @@ push-item-requires : tie.Need-push-item-requires
 push-item-requires c κs = search needs
 
 same-length-4 : tie.Need-same-length-4
-same-length-4 c = c .before .before .before .before .before .before .before .before .push-item .kept .1 .1 .1 .1 .0 ∙ c .before .before .before .before .before .before .before .before .before .before .before .before .before .before .before .before .before .before .before .before .check .kept .1 .1 .1 .1 .0 ∙ c .before .before .before .before .before .before .before .before .before .before .before .before .before .before .before .before .before .before .before .before .before .before .before .before .before .before .before .before .before .before .before .before .eat .kept .1 .1 .1 .1 .0
+same-length-4 c =
+    let at-push-item = c .before .before .before .before .before .before .before .before in
+    let at-check = at-push-item .before .before .before .before .before .before .before .before .before .before .before .before in
+    let at-eat = at-check .before .before .before .before .before .before .before .before .before .before .before .before in
+    at-push-item .push-item .kept .1 .1 .1 .1 .0 ∙ at-check .check .kept .1 .1 .1 .1 .0 ∙ at-eat .eat .kept .1 .1 .1 .1 .0
 
 same-length-5 : tie.Need-same-length-5
-same-length-5 c = c .before .before .before .before .before .before .before .before .push-item .kept .1 .1 .1 .1 .1 .0 ∙ c .before .before .before .before .before .before .before .before .before .before .before .before .before .before .before .before .before .before .before .before .check .kept .1 .1 .1 .1 .1 .0 ∙ c .before .before .before .before .before .before .before .before .before .before .before .before .before .before .before .before .before .before .before .before .before .before .before .before .before .before .before .before .before .before .before .before .eat .kept .1 .1 .1 .1 .1 .0
+same-length-5 c =
+    let at-push-item = c .before .before .before .before .before .before .before .before in
+    let at-check = at-push-item .before .before .before .before .before .before .before .before .before .before .before .before in
+    let at-eat = at-check .before .before .before .before .before .before .before .before .before .before .before .before in
+    at-push-item .push-item .kept .1 .1 .1 .1 .1 .0 ∙ at-check .check .kept .1 .1 .1 .1 .1 .0 ∙ at-eat .eat .kept .1 .1 .1 .1 .1 .0
 
 same-length-6 : tie.Need-same-length-6
-same-length-6 c = c .before .before .before .before .before .before .before .before .push-item .kept .1 .1 .1 .1 .1 .1 .0 ∙ c .before .before .before .before .before .before .before .before .before .before .before .before .before .before .before .before .before .before .before .before .check .kept .1 .1 .1 .1 .1 .1 .0 ∙ c .before .before .before .before .before .before .before .before .before .before .before .before .before .before .before .before .before .before .before .before .before .before .before .before .before .before .before .before .before .before .before .before .eat .kept .1 .1 .1 .1 .1 .1 .0
+same-length-6 c =
+    let at-push-item = c .before .before .before .before .before .before .before .before in
+    let at-check = at-push-item .before .before .before .before .before .before .before .before .before .before .before .before in
+    let at-eat = at-check .before .before .before .before .before .before .before .before .before .before .before .before in
+    at-push-item .push-item .kept .1 .1 .1 .1 .1 .1 .0 ∙ at-check .check .kept .1 .1 .1 .1 .1 .1 .0 ∙ at-eat .eat .kept .1 .1 .1 .1 .1 .1 .0
 
 returns-2 : tie.Need-returns-2
 unfolding groupItem
-returns-2 c = record { is = λ n. then (c .before .before .before .before .before .before .before .before .before .before .before .before .before .before .before .before .before .before .before .before .before .before .before .before .before .before .before .before .before .before .before .before .eat .ensures) (when-false (c .before .before .before .before .before .before .before .before .before .before .before .before .before .before .before .before .before .before .before .before .before .before .before .before .if1 .left) (then (c .before .before .before .before .before .before .before .before .before .before .before .before .before .before .before .before .before .before .before .before .check .ensures) (when-true (c .before .before .before .before .before .before .before .before .before .before .before .before .if2 .taken) (regroup (then (c .before .before .before .before .before .before .before .before .push-item .ensures) gives))))) }
+returns-2 c =
+    let at-push-item = c .before .before .before .before .before .before .before .before in
+    let at-if2 = at-push-item .before .before .before .before in
+    let at-check = at-if2 .before .before .before .before .before .before .before .before in
+    let at-if1 = at-check .before .before .before .before in
+    let at-eat = at-if1 .before .before .before .before .before .before .before .before in
+    record {
+      is = λ n. then (at-eat .eat .ensures) (when-false (at-if1 .if1 .left)
+          (then (at-check .check .ensures) (when-true (at-if2 .if2 .taken) (regroup (then (at-push-item .push-item .ensures) gives)))));
+    }
 
 same-length-7 : tie.Need-same-length-7
-same-length-7 c = c .before .before .before .before .before .before .before .before .check .kept .1 .1 .1 .1 .0 ∙ c .before .before .before .before .before .before .before .before .before .before .before .before .before .before .before .before .before .before .before .before .eat .kept .1 .1 .1 .1 .0
+same-length-7 c =
+    let at-check = c .before .before .before .before .before .before .before .before in
+    let at-eat = at-check .before .before .before .before .before .before .before .before .before .before .before .before in
+    at-check .check .kept .1 .1 .1 .1 .0 ∙ at-eat .eat .kept .1 .1 .1 .1 .0
 
 same-length-8 : tie.Need-same-length-8
-same-length-8 c = c .before .before .before .before .before .before .before .before .check .kept .1 .1 .1 .1 .1 .0 ∙ c .before .before .before .before .before .before .before .before .before .before .before .before .before .before .before .before .before .before .before .before .eat .kept .1 .1 .1 .1 .1 .0
+same-length-8 c =
+    let at-check = c .before .before .before .before .before .before .before .before in
+    let at-eat = at-check .before .before .before .before .before .before .before .before .before .before .before .before in
+    at-check .check .kept .1 .1 .1 .1 .1 .0 ∙ at-eat .eat .kept .1 .1 .1 .1 .1 .0
 
 same-length-9 : tie.Need-same-length-9
-same-length-9 c = c .before .before .before .before .before .before .before .before .check .kept .1 .1 .1 .1 .1 .1 .0 ∙ c .before .before .before .before .before .before .before .before .before .before .before .before .before .before .before .before .before .before .before .before .eat .kept .1 .1 .1 .1 .1 .1 .0
+same-length-9 c =
+    let at-check = c .before .before .before .before .before .before .before .before in
+    let at-eat = at-check .before .before .before .before .before .before .before .before .before .before .before .before in
+    at-check .check .kept .1 .1 .1 .1 .1 .1 .0 ∙ at-eat .eat .kept .1 .1 .1 .1 .1 .1 .0
 
 returns-3 : tie.Need-returns-3
 unfolding groupItem
-returns-3 c = record { is = λ n. then (c .before .before .before .before .before .before .before .before .before .before .before .before .before .before .before .before .before .before .before .before .eat .ensures) (when-false (c .before .before .before .before .before .before .before .before .before .before .before .before .if1 .left) (then (c .before .before .before .before .before .before .before .before .check .ensures) (when-false (c .if2 .left) gives))) }
+returns-3 c =
+    let at-check = c .before .before .before .before .before .before .before .before in
+    let at-if1 = at-check .before .before .before .before in
+    let at-eat = at-if1 .before .before .before .before .before .before .before .before in
+    record {
+      is = λ n. then (at-eat .eat .ensures) (when-false (at-if1 .if1 .left)
+          (then (at-check .check .ensures) (when-false (c .if2 .left) gives)));
+    }
 
 pub group-item-spec : {M : Type 1} → statement M
 group-item-spec =

@@ -54,19 +54,31 @@ eat-requires : tie.Need-eat-requires Inv-loop μ-loop
 eat-requires c κs = search needs
 
 add-count : tie.Need-add-count Inv-loop μ-loop
-add-count c = omega (arith, c .before .before .before .before .before .before .before .before .before .before .before .before .before .before .before .before .before .before .before .before .before .before .before .before .before .before .before .before .before .turns-of .ok, c .before .before .before .before .before .before .before .before .before .before .before .before .before .before .before .before .before .before .before .before .before .before .before .before .before .before .before .before .loop .inv .4, c .before .before .before .before .before .before .before .before .before .before .before .before .before .before .before .before .before .before .before .before .before .before .before .before .before .before .before .loop-test .taken)
+add-count c =
+    let at-loop-test = c .before .before .before .before .before .before .before .before .before .before .before .before .before .before .before .before .before .before .before .before .before .before .before .before .before .before .before in
+    let at-loop = at-loop-test .before in
+    let at-turns-of = at-loop .before in
+    omega (arith, at-turns-of .turns-of .ok, at-loop .loop .inv .4, at-loop-test .loop-test .taken)
 
 loop-less : tie.Need-loop-less Inv-loop μ-loop
-loop-less c = omega (arith, c .before .before .before .before .before .before .before .before .before .before .before .before .before .before .before .before .before .before .before .before .before .before .before .before .before .before .before .before .before .loop-test .taken)
+loop-less c =
+    let at-loop-test = c .before .before .before .before .before .before .before .before .before .before .before .before .before .before .before .before .before .before .before .before .before .before .before .before .before .before .before .before .before in
+    omega (arith, at-loop-test .loop-test .taken)
 
 loop-again : tie.Need-loop-again Inv-loop μ-loop
-loop-again c = (
-  found-next (c .before .before .before .before .before .before .before .before .before .before .before .before .before .before .before .before .before .before .before .before .before .before .before .before .before .before .before .before .before .before .loop .inv .0) (c .before .before .before .before .before .before .before .before .before .before .before .before .before .before .before .before .before .before .before .before .before .before .before .before .before .before .before .before .before .loop-test .taken) (item-found _ (c .before .before .before .before .before .before .before .before .before .before .before .before .before .before .before .before .before .before .before .before .before .before .before .group-item .ensures) (c .before .before .before .before .before .before .before .before .before .before .before .before .before .before .it .given .1)) (rw (not-false (c .before .before .before .before .before .before .before .before .before .eat .result .is) (c .if2 .left)) at (c .before .before .before .before .before .before .before .before .before .eat .ensures)),
-  c .before .before .before .before .before .before .before .before .before .eat .kept .1 .1 .1 .1 .0 ∙ c .before .before .before .before .before .before .before .before .before .before .before .before .before .before .before .before .before .before .before .before .before .before .before .group-item .kept .1 .1 .1 .1 .0 ∙ c .before .before .before .before .before .before .before .before .before .before .before .before .before .before .before .before .before .before .before .before .before .before .before .before .before .before .before .before .before .before .loop .inv .1,
-  c .before .before .before .before .before .before .before .before .before .eat .kept .1 .1 .1 .1 .1 .0 ∙ c .before .before .before .before .before .before .before .before .before .before .before .before .before .before .before .before .before .before .before .before .before .before .before .group-item .kept .1 .1 .1 .1 .1 .0 ∙ c .before .before .before .before .before .before .before .before .before .before .before .before .before .before .before .before .before .before .before .before .before .before .before .before .before .before .before .before .before .before .loop .inv .2,
-  c .before .before .before .before .before .before .before .before .before .eat .kept .1 .1 .1 .1 .1 .1 .0 ∙ c .before .before .before .before .before .before .before .before .before .before .before .before .before .before .before .before .before .before .before .before .before .before .before .group-item .kept .1 .1 .1 .1 .1 .1 .0 ∙ c .before .before .before .before .before .before .before .before .before .before .before .before .before .before .before .before .before .before .before .before .before .before .before .before .before .before .before .before .before .before .loop .inv .3,
-  omega (arith, c .before .before .before .before .before .before .before .before .before .before .before .before .before .before .before .before .before .before .before .before .before .before .before .before .before .before .before .before .before .before .loop .inv .4, c .before .before .before .before .before .before .before .before .before .before .before .before .before .before .before .before .before .before .before .before .before .before .before .before .before .before .before .before .before .loop-test .taken),
-)
+loop-again c =
+    let at-eat = c .before .before .before .before .before .before .before .before .before in
+    let at-it = at-eat .before .before .before .before .before in
+    let at-group-item = at-it .before .before .before .before .before .before .before .before .before in
+    let at-loop-test = at-group-item .before .before .before .before .before .before in
+    let at-loop = at-loop-test .before in (
+      found-next (at-loop .loop .inv .0) (at-loop-test .loop-test .taken) (item-found _ (at-group-item .group-item .ensures) (at-it .it .given .1))
+          (rw (not-false (at-eat .eat .result .is) (c .if2 .left)) at (at-eat .eat .ensures)),
+      at-eat .eat .kept .1 .1 .1 .1 .0 ∙ at-group-item .group-item .kept .1 .1 .1 .1 .0 ∙ at-loop .loop .inv .1,
+      at-eat .eat .kept .1 .1 .1 .1 .1 .0 ∙ at-group-item .group-item .kept .1 .1 .1 .1 .1 .0 ∙ at-loop .loop .inv .2,
+      at-eat .eat .kept .1 .1 .1 .1 .1 .1 .0 ∙ at-group-item .group-item .kept .1 .1 .1 .1 .1 .1 .0 ∙ at-loop .loop .inv .3,
+      omega (arith, at-loop .loop .inv .4, at-loop-test .loop-test .taken),
+    )
 
 enum-told : tie.Need-enum-told Inv-loop μ-loop
 enum-told c = search needs
@@ -78,16 +90,30 @@ pass-unexpected-requires : tie.Need-pass-unexpected-requires Inv-loop μ-loop
 pass-unexpected-requires c κs = search needs
 
 loop-less-2 : tie.Need-loop-less-2 Inv-loop μ-loop
-loop-less-2 c = omega (arith, c .before .before .before .before .before .before .before .before .before .before .before .before .before .before .before .before .before .before .before .before .before .before .before .before .before .before .before .before .before .before .before .before .before .before .before .before .before .loop-test .taken)
+loop-less-2 c =
+    let at-loop-test = c .before .before .before .before .before .before .before .before .before .before .before .before .before .before .before .before .before .before .before .before .before .before .before .before .before .before .before .before .before .before .before .before .before .before .before .before .before in
+    omega (arith, at-loop-test .loop-test .taken)
 
 loop-again-2 : tie.Need-loop-again-2 Inv-loop μ-loop
-loop-again-2 c = (
-  missing-next (c .before .before .before .before .before .before .before .before .before .before .before .before .before .before .before .before .before .before .before .before .before .before .before .before .before .before .before .before .before .before .before .before .before .before .before .before .before .before .loop .inv .0) (c .before .before .before .before .before .before .before .before .before .before .before .before .before .before .before .before .before .before .before .before .before .before .before .before .before .before .before .before .before .before .before .before .before .before .before .before .before .loop-test .taken) (item-missing _ (c .before .before .before .before .before .before .before .before .before .before .before .before .before .before .before .before .before .before .before .before .before .before .before .before .before .before .before .before .before .before .before .group-item .ensures) (c .before .before .before .before .before .before .before .before .before .before .before .before .before .before .before .before .before .before .before .before .before .before .enum-told .given .1)) (rw (c .before .before .before .before .before .before .before .before .before .before .if3 .left) at (c .before .before .before .before .before .before .before .before .before .before .before .before .before .before .before .before .before .before .list-ends .ensures)) (c .before .before .before .before .before .before .pass-unexpected .ensures),
-  c .before .before .before .before .before .before .pass-unexpected .kept .1 .1 .1 .1 .0 ∙ c .before .before .before .before .before .before .before .before .before .before .before .before .before .before .before .before .before .before .list-ends .kept .1 .1 .1 .1 .0 ∙ c .before .before .before .before .before .before .before .before .before .before .before .before .before .before .before .before .before .before .before .before .before .before .before .before .before .before .before .before .before .before .before .group-item .kept .1 .1 .1 .1 .0 ∙ c .before .before .before .before .before .before .before .before .before .before .before .before .before .before .before .before .before .before .before .before .before .before .before .before .before .before .before .before .before .before .before .before .before .before .before .before .before .before .loop .inv .1,
-  c .before .before .before .before .before .before .pass-unexpected .kept .1 .1 .1 .1 .1 .0 ∙ c .before .before .before .before .before .before .before .before .before .before .before .before .before .before .before .before .before .before .list-ends .kept .1 .1 .1 .1 .1 .0 ∙ c .before .before .before .before .before .before .before .before .before .before .before .before .before .before .before .before .before .before .before .before .before .before .before .before .before .before .before .before .before .before .before .group-item .kept .1 .1 .1 .1 .1 .0 ∙ c .before .before .before .before .before .before .before .before .before .before .before .before .before .before .before .before .before .before .before .before .before .before .before .before .before .before .before .before .before .before .before .before .before .before .before .before .before .before .loop .inv .2,
-  c .before .before .before .before .before .before .pass-unexpected .kept .1 .1 .1 .1 .1 .1 .0 ∙ c .before .before .before .before .before .before .before .before .before .before .before .before .before .before .before .before .before .before .list-ends .kept .1 .1 .1 .1 .1 .1 .0 ∙ c .before .before .before .before .before .before .before .before .before .before .before .before .before .before .before .before .before .before .before .before .before .before .before .before .before .before .before .before .before .before .before .group-item .kept .1 .1 .1 .1 .1 .1 .0 ∙ c .before .before .before .before .before .before .before .before .before .before .before .before .before .before .before .before .before .before .before .before .before .before .before .before .before .before .before .before .before .before .before .before .before .before .before .before .before .before .loop .inv .3,
-  omega (arith, c .before .before .before .before .before .before .before .before .before .before .before .before .before .before .before .before .before .before .before .before .before .before .before .before .before .before .before .before .before .before .before .before .before .before .before .before .before .before .loop .inv .4, c .before .before .before .before .before .before .before .before .before .before .before .before .before .before .before .before .before .before .before .before .before .before .before .before .before .before .before .before .before .before .before .before .before .before .before .before .before .loop-test .taken),
-)
+loop-again-2 c =
+    let at-pass-unexpected = c .before .before .before .before .before .before in
+    let at-if3 = at-pass-unexpected .before .before .before .before in
+    let at-list-ends = at-if3 .before .before .before .before .before .before .before .before in
+    let at-enum-told = at-list-ends .before .before .before .before in
+    let at-group-item = at-enum-told .before .before .before .before .before .before .before .before .before in
+    let at-loop-test = at-group-item .before .before .before .before .before .before in
+    let at-loop = at-loop-test .before in (
+      missing-next (at-loop .loop .inv .0) (at-loop-test .loop-test .taken)
+          (item-missing _ (at-group-item .group-item .ensures) (at-enum-told .enum-told .given .1))
+          (rw (at-if3 .if3 .left) at (at-list-ends .list-ends .ensures)) (at-pass-unexpected .pass-unexpected .ensures),
+      at-pass-unexpected .pass-unexpected .kept .1 .1 .1 .1 .0 ∙ at-list-ends .list-ends .kept .1 .1 .1 .1 .0
+          ∙ at-group-item .group-item .kept .1 .1 .1 .1 .0 ∙ at-loop .loop .inv .1,
+      at-pass-unexpected .pass-unexpected .kept .1 .1 .1 .1 .1 .0 ∙ at-list-ends .list-ends .kept .1 .1 .1 .1 .1 .0
+          ∙ at-group-item .group-item .kept .1 .1 .1 .1 .1 .0 ∙ at-loop .loop .inv .2,
+      at-pass-unexpected .pass-unexpected .kept .1 .1 .1 .1 .1 .1 .0 ∙ at-list-ends .list-ends .kept .1 .1 .1 .1 .1 .1 .0
+          ∙ at-group-item .group-item .kept .1 .1 .1 .1 .1 .1 .0 ∙ at-loop .loop .inv .3,
+      omega (arith, at-loop .loop .inv .4, at-loop-test .loop-test .taken),
+    )
 
 same-length-4 : tie.Need-same-length-4 Inv-loop μ-loop
 same-length-4 c = c .before .loop .inv .1
@@ -102,28 +128,67 @@ returns-2 : tie.Need-returns-2 Inv-loop μ-loop
 returns-2 c = list-over (c .before .loop .inv .0) (c .loop-test .left)
 
 same-length-7 : tie.Need-same-length-7 Inv-loop μ-loop
-same-length-7 c = c .before .before .before .before .before .before .before .before .before .eat .kept .1 .1 .1 .1 .0 ∙ c .before .before .before .before .before .before .before .before .before .before .before .before .before .before .before .before .before .before .before .before .before .before .before .group-item .kept .1 .1 .1 .1 .0 ∙ c .before .before .before .before .before .before .before .before .before .before .before .before .before .before .before .before .before .before .before .before .before .before .before .before .before .before .before .before .before .before .loop .inv .1
+same-length-7 c =
+    let at-eat = c .before .before .before .before .before .before .before .before .before in
+    let at-group-item = at-eat .before .before .before .before .before .before .before .before .before .before .before .before .before .before in
+    let at-loop = at-group-item .before .before .before .before .before .before .before in
+    at-eat .eat .kept .1 .1 .1 .1 .0 ∙ at-group-item .group-item .kept .1 .1 .1 .1 .0 ∙ at-loop .loop .inv .1
 
 same-length-8 : tie.Need-same-length-8 Inv-loop μ-loop
-same-length-8 c = c .before .before .before .before .before .before .before .before .before .eat .kept .1 .1 .1 .1 .1 .0 ∙ c .before .before .before .before .before .before .before .before .before .before .before .before .before .before .before .before .before .before .before .before .before .before .before .group-item .kept .1 .1 .1 .1 .1 .0 ∙ c .before .before .before .before .before .before .before .before .before .before .before .before .before .before .before .before .before .before .before .before .before .before .before .before .before .before .before .before .before .before .loop .inv .2
+same-length-8 c =
+    let at-eat = c .before .before .before .before .before .before .before .before .before in
+    let at-group-item = at-eat .before .before .before .before .before .before .before .before .before .before .before .before .before .before in
+    let at-loop = at-group-item .before .before .before .before .before .before .before in
+    at-eat .eat .kept .1 .1 .1 .1 .1 .0 ∙ at-group-item .group-item .kept .1 .1 .1 .1 .1 .0 ∙ at-loop .loop .inv .2
 
 same-length-9 : tie.Need-same-length-9 Inv-loop μ-loop
-same-length-9 c = c .before .before .before .before .before .before .before .before .before .eat .kept .1 .1 .1 .1 .1 .1 .0 ∙ c .before .before .before .before .before .before .before .before .before .before .before .before .before .before .before .before .before .before .before .before .before .before .before .group-item .kept .1 .1 .1 .1 .1 .1 .0 ∙ c .before .before .before .before .before .before .before .before .before .before .before .before .before .before .before .before .before .before .before .before .before .before .before .before .before .before .before .before .before .before .loop .inv .3
+same-length-9 c =
+    let at-eat = c .before .before .before .before .before .before .before .before .before in
+    let at-group-item = at-eat .before .before .before .before .before .before .before .before .before .before .before .before .before .before in
+    let at-loop = at-group-item .before .before .before .before .before .before .before in
+    at-eat .eat .kept .1 .1 .1 .1 .1 .1 .0 ∙ at-group-item .group-item .kept .1 .1 .1 .1 .1 .1 .0 ∙ at-loop .loop .inv .3
 
 returns-3 : tie.Need-returns-3 Inv-loop μ-loop
-returns-3 c = found-last (c .before .before .before .before .before .before .before .before .before .before .before .before .before .before .before .before .before .before .before .before .before .before .before .before .before .before .before .before .before .before .loop .inv .0) (c .before .before .before .before .before .before .before .before .before .before .before .before .before .before .before .before .before .before .before .before .before .before .before .before .before .before .before .before .before .loop-test .taken) (item-found _ (c .before .before .before .before .before .before .before .before .before .before .before .before .before .before .before .before .before .before .before .before .before .before .before .group-item .ensures) (c .before .before .before .before .before .before .before .before .before .before .before .before .before .before .it .given .1)) (rw (not-true (c .before .before .before .before .before .before .before .before .before .eat .result .is) (c .if2 .taken)) at (c .before .before .before .before .before .before .before .before .before .eat .ensures))
+returns-3 c =
+    let at-eat = c .before .before .before .before .before .before .before .before .before in
+    let at-it = at-eat .before .before .before .before .before in
+    let at-group-item = at-it .before .before .before .before .before .before .before .before .before in
+    let at-loop-test = at-group-item .before .before .before .before .before .before in
+    let at-loop = at-loop-test .before in
+    found-last (at-loop .loop .inv .0) (at-loop-test .loop-test .taken) (item-found _ (at-group-item .group-item .ensures) (at-it .it .given .1))
+    (rw (not-true (at-eat .eat .result .is) (c .if2 .taken)) at (at-eat .eat .ensures))
 
 same-length-10 : tie.Need-same-length-10 Inv-loop μ-loop
-same-length-10 c = c .before .before .before .before .before .before .before .before .list-ends .kept .1 .1 .1 .1 .0 ∙ c .before .before .before .before .before .before .before .before .before .before .before .before .before .before .before .before .before .before .before .before .before .group-item .kept .1 .1 .1 .1 .0 ∙ c .before .before .before .before .before .before .before .before .before .before .before .before .before .before .before .before .before .before .before .before .before .before .before .before .before .before .before .before .loop .inv .1
+same-length-10 c =
+    let at-list-ends = c .before .before .before .before .before .before .before .before in
+    let at-group-item = at-list-ends .before .before .before .before .before .before .before .before .before .before .before .before .before in
+    let at-loop = at-group-item .before .before .before .before .before .before .before in
+    at-list-ends .list-ends .kept .1 .1 .1 .1 .0 ∙ at-group-item .group-item .kept .1 .1 .1 .1 .0 ∙ at-loop .loop .inv .1
 
 same-length-11 : tie.Need-same-length-11 Inv-loop μ-loop
-same-length-11 c = c .before .before .before .before .before .before .before .before .list-ends .kept .1 .1 .1 .1 .1 .0 ∙ c .before .before .before .before .before .before .before .before .before .before .before .before .before .before .before .before .before .before .before .before .before .group-item .kept .1 .1 .1 .1 .1 .0 ∙ c .before .before .before .before .before .before .before .before .before .before .before .before .before .before .before .before .before .before .before .before .before .before .before .before .before .before .before .before .loop .inv .2
+same-length-11 c =
+    let at-list-ends = c .before .before .before .before .before .before .before .before in
+    let at-group-item = at-list-ends .before .before .before .before .before .before .before .before .before .before .before .before .before in
+    let at-loop = at-group-item .before .before .before .before .before .before .before in
+    at-list-ends .list-ends .kept .1 .1 .1 .1 .1 .0 ∙ at-group-item .group-item .kept .1 .1 .1 .1 .1 .0 ∙ at-loop .loop .inv .2
 
 same-length-12 : tie.Need-same-length-12 Inv-loop μ-loop
-same-length-12 c = c .before .before .before .before .before .before .before .before .list-ends .kept .1 .1 .1 .1 .1 .1 .0 ∙ c .before .before .before .before .before .before .before .before .before .before .before .before .before .before .before .before .before .before .before .before .before .group-item .kept .1 .1 .1 .1 .1 .1 .0 ∙ c .before .before .before .before .before .before .before .before .before .before .before .before .before .before .before .before .before .before .before .before .before .before .before .before .before .before .before .before .loop .inv .3
+same-length-12 c =
+    let at-list-ends = c .before .before .before .before .before .before .before .before in
+    let at-group-item = at-list-ends .before .before .before .before .before .before .before .before .before .before .before .before .before in
+    let at-loop = at-group-item .before .before .before .before .before .before .before in
+    at-list-ends .list-ends .kept .1 .1 .1 .1 .1 .1 .0 ∙ at-group-item .group-item .kept .1 .1 .1 .1 .1 .1 .0 ∙ at-loop .loop .inv .3
 
 returns-4 : tie.Need-returns-4 Inv-loop μ-loop
-returns-4 c = missing-last (c .before .before .before .before .before .before .before .before .before .before .before .before .before .before .before .before .before .before .before .before .before .before .before .before .before .before .before .before .loop .inv .0) (c .before .before .before .before .before .before .before .before .before .before .before .before .before .before .before .before .before .before .before .before .before .before .before .before .before .before .before .loop-test .taken) (item-missing _ (c .before .before .before .before .before .before .before .before .before .before .before .before .before .before .before .before .before .before .before .before .before .group-item .ensures) (c .before .before .before .before .before .before .before .before .before .before .before .before .enum-told .given .1)) (rw (c .if3 .taken) at (c .before .before .before .before .before .before .before .before .list-ends .ensures))
+returns-4 c =
+    let at-list-ends = c .before .before .before .before .before .before .before .before in
+    let at-enum-told = at-list-ends .before .before .before .before in
+    let at-group-item = at-enum-told .before .before .before .before .before .before .before .before .before in
+    let at-loop-test = at-group-item .before .before .before .before .before .before in
+    let at-loop = at-loop-test .before in
+    missing-last (at-loop .loop .inv .0) (at-loop-test .loop-test .taken)
+    (item-missing _ (at-group-item .group-item .ensures) (at-enum-told .enum-told .given .1))
+    (rw (c .if3 .taken) at (at-list-ends .list-ends .ensures))
 
 pub group-items-spec : {M : Type 1} → statement M
 group-items-spec =

@@ -30,17 +30,49 @@ close-node-requires : tie.Need-close-node-requires
 close-node-requires c κs = search needs
 
 same-length : tie.Need-same-length
-same-length c = c .before .before .before .before .before .before .close-node .kept .1 .1 .1 .1 .0 ∙ c .before .before .before .before .before .before .before .before .before .before .before .before .before .before .before .before .expect .kept .1 .1 .1 .1 .0 ∙ c .before .before .before .before .before .before .before .before .before .before .before .before .before .before .before .before .before .before .before .before .before .before .before .before .before .before .tell-count .kept .1 .1 .1 .1 .0 ∙ c .before .before .before .before .before .before .before .before .before .before .before .before .before .before .before .before .before .before .before .before .before .before .before .before .before .before .before .before .before .before .before .before .before .before .before .before .braced-items .kept .1 .1 .1 .1 .0 ∙ c .before .before .before .before .before .before .before .before .before .before .before .before .before .before .before .before .before .before .before .before .before .before .before .before .before .before .before .before .before .before .before .before .before .before .before .before .before .before .before .before .before .before .before .before .before .before .before .before .before .before .before .peek .kept .1 .1 .1 .1 .0
+same-length c =
+    let at-close-node = c .before .before .before .before .before .before in
+    let at-expect = at-close-node .before .before .before .before .before .before .before .before .before .before in
+    let at-tell-count = at-expect .before .before .before .before .before .before .before .before .before .before in
+    let at-braced-items = at-tell-count .before .before .before .before .before .before .before .before .before .before in
+    let at-peek = at-braced-items .before .before .before .before .before .before .before .before .before .before .before .before .before .before .before in
+    at-close-node .close-node .kept .1 .1 .1 .1 .0 ∙ at-expect .expect .kept .1 .1 .1 .1 .0 ∙ at-tell-count .tell-count .kept .1 .1 .1 .1 .0
+    ∙ at-braced-items .braced-items .kept .1 .1 .1 .1 .0 ∙ at-peek .peek .kept .1 .1 .1 .1 .0
 
 same-length-2 : tie.Need-same-length-2
-same-length-2 c = c .before .before .before .before .before .before .close-node .kept .1 .1 .1 .1 .1 .0 ∙ c .before .before .before .before .before .before .before .before .before .before .before .before .before .before .before .before .expect .kept .1 .1 .1 .1 .1 .0 ∙ c .before .before .before .before .before .before .before .before .before .before .before .before .before .before .before .before .before .before .before .before .before .before .before .before .before .before .tell-count .kept .1 .1 .1 .1 .1 .0 ∙ c .before .before .before .before .before .before .before .before .before .before .before .before .before .before .before .before .before .before .before .before .before .before .before .before .before .before .before .before .before .before .before .before .before .before .before .before .braced-items .kept .1 .1 .1 .1 .1 .0 ∙ c .before .before .before .before .before .before .before .before .before .before .before .before .before .before .before .before .before .before .before .before .before .before .before .before .before .before .before .before .before .before .before .before .before .before .before .before .before .before .before .before .before .before .before .before .before .before .before .before .before .before .before .peek .kept .1 .1 .1 .1 .1 .0
+same-length-2 c =
+    let at-close-node = c .before .before .before .before .before .before in
+    let at-expect = at-close-node .before .before .before .before .before .before .before .before .before .before in
+    let at-tell-count = at-expect .before .before .before .before .before .before .before .before .before .before in
+    let at-braced-items = at-tell-count .before .before .before .before .before .before .before .before .before .before in
+    let at-peek = at-braced-items .before .before .before .before .before .before .before .before .before .before .before .before .before .before .before in
+    at-close-node .close-node .kept .1 .1 .1 .1 .1 .0 ∙ at-expect .expect .kept .1 .1 .1 .1 .1 .0 ∙ at-tell-count .tell-count .kept .1 .1 .1 .1 .1 .0
+    ∙ at-braced-items .braced-items .kept .1 .1 .1 .1 .1 .0 ∙ at-peek .peek .kept .1 .1 .1 .1 .1 .0
 
 same-length-3 : tie.Need-same-length-3
-same-length-3 c = c .before .before .before .before .before .before .close-node .kept .1 .1 .1 .1 .1 .1 .0 ∙ c .before .before .before .before .before .before .before .before .before .before .before .before .before .before .before .before .expect .kept .1 .1 .1 .1 .1 .1 .0 ∙ c .before .before .before .before .before .before .before .before .before .before .before .before .before .before .before .before .before .before .before .before .before .before .before .before .before .before .tell-count .kept .1 .1 .1 .1 .1 .1 .0 ∙ c .before .before .before .before .before .before .before .before .before .before .before .before .before .before .before .before .before .before .before .before .before .before .before .before .before .before .before .before .before .before .before .before .before .before .before .before .braced-items .kept .1 .1 .1 .1 .1 .1 .0 ∙ c .before .before .before .before .before .before .before .before .before .before .before .before .before .before .before .before .before .before .before .before .before .before .before .before .before .before .before .before .before .before .before .before .before .before .before .before .before .before .before .before .before .before .before .before .before .before .before .before .before .before .before .peek .kept .1 .1 .1 .1 .1 .1 .0
+same-length-3 c =
+    let at-close-node = c .before .before .before .before .before .before in
+    let at-expect = at-close-node .before .before .before .before .before .before .before .before .before .before in
+    let at-tell-count = at-expect .before .before .before .before .before .before .before .before .before .before in
+    let at-braced-items = at-tell-count .before .before .before .before .before .before .before .before .before .before in
+    let at-peek = at-braced-items .before .before .before .before .before .before .before .before .before .before .before .before .before .before .before in
+    at-close-node .close-node .kept .1 .1 .1 .1 .1 .1 .0 ∙ at-expect .expect .kept .1 .1 .1 .1 .1 .1 .0
+    ∙ at-tell-count .tell-count .kept .1 .1 .1 .1 .1 .1 .0 ∙ at-braced-items .braced-items .kept .1 .1 .1 .1 .1 .1 .0
+    ∙ at-peek .peek .kept .1 .1 .1 .1 .1 .1 .0
 
 returns : tie.Need-returns
 unfolding parseImportGroup
-returns c = then (c .before .before .before .before .before .before .before .before .before .before .before .before .before .before .before .before .before .before .before .before .before .before .before .before .before .before .before .before .before .before .before .before .before .before .before .before .before .before .before .before .before .before .before .before .before .before .before .before .before .before .before .peek .ensures) (then (here-is (c .before .before .before .before .before .before .before .before .before .before .before .before .before .before .before .before .before .before .before .before .before .before .before .before .before .before .before .before .before .before .before .before .before .before .before .before .before .before .before .before .before .token-start .ensures) (c .before .before .before .before .before .before .before .before .before .before .before .before .before .before .before .before .before .before .before .before .before .before .before .before .before .before .before .before .before .before .before .before .before .before .before .before .before .before .before .before .token-end .ensures)) (then (c .before .before .before .before .before .before .before .before .before .before .before .before .before .before .before .before .before .before .before .before .before .before .before .before .before .before .before .before .before .before .before .before .before .before .before .before .braced-items .ensures) (regroup (then (c .before .before .before .before .before .before .before .before .before .before .before .before .before .before .before .before .before .before .before .before .before .before .before .before .before .before .tell-count .ensures) (then (c .before .before .before .before .before .before .before .before .before .before .before .before .before .before .before .before .expect .ensures) (c .before .before .before .before .before .before .close-node .ensures))))))
+returns c =
+    let at-close-node = c .before .before .before .before .before .before in
+    let at-expect = at-close-node .before .before .before .before .before .before .before .before .before .before in
+    let at-tell-count = at-expect .before .before .before .before .before .before .before .before .before .before in
+    let at-braced-items = at-tell-count .before .before .before .before .before .before .before .before .before .before in
+    let at-token-end = at-braced-items .before .before .before .before in
+    let at-token-start = at-token-end .before in
+    let at-peek = at-token-start .before .before .before .before .before .before .before .before .before .before in
+    then (at-peek .peek .ensures) (then (here-is (at-token-start .token-start .ensures) (at-token-end .token-end .ensures))
+    (then (at-braced-items .braced-items .ensures)
+    (regroup (then (at-tell-count .tell-count .ensures) (then (at-expect .expect .ensures) (at-close-node .close-node .ensures))))))
 
 pub parse-import-group-spec : {M : Type 1} → statement M
 parse-import-group-spec =

@@ -33,17 +33,56 @@ close-node-requires : tie.Need-close-node-requires
 close-node-requires c κs = search needs
 
 same-length : tie.Need-same-length
-same-length c = c .before .before .before .before .before .before .close-node .kept .1 .1 .1 .1 .0 ∙ c .before .before .before .before .before .before .before .before .before .before .before .before .before .before .before .before .push-alias .kept .1 .1 .1 .1 .0 ∙ c .before .before .before .before .before .before .before .before .before .before .before .before .before .before .before .before .before .before .before .before .before .before .before .before .before .before .path-in-group .kept .1 .1 .1 .1 .0 ∙ c .before .before .before .before .before .before .before .before .before .before .before .before .before .before .before .before .before .before .before .before .before .before .before .before .before .before .before .before .before .before .before .before .before .before .before .before .push-child .kept .1 .1 .1 .1 .0 ∙ c .before .before .before .before .before .before .before .before .before .before .before .before .before .before .before .before .before .before .before .before .before .before .before .before .before .before .before .before .before .before .before .before .before .before .before .before .before .before .before .before .before .before .before .before .before .before .before .before .before .before .before .expect-ident .kept .1 .1 .1 .1 .0 ∙ c .before .before .before .before .before .before .before .before .before .before .before .before .before .before .before .before .before .before .before .before .before .before .before .before .before .before .before .before .before .before .before .before .before .before .before .before .before .before .before .before .before .before .before .before .before .before .before .before .before .before .before .before .before .before .before .before .before .before .before .before .before .before .open-here .kept .1 .1 .1 .1 .0
+same-length c =
+    let at-close-node = c .before .before .before .before .before .before in
+    let at-push-alias = at-close-node .before .before .before .before .before .before .before .before .before .before in
+    let at-path-in-group = at-push-alias .before .before .before .before .before .before .before .before .before .before in
+    let at-push-child = at-path-in-group .before .before .before .before .before .before .before .before .before .before in
+    let at-expect-ident = at-push-child .before .before .before .before .before .before .before .before .before .before .before .before .before .before .before in
+    let at-open-here = at-expect-ident .before .before .before .before .before .before .before .before .before .before .before in
+    at-close-node .close-node .kept .1 .1 .1 .1 .0 ∙ at-push-alias .push-alias .kept .1 .1 .1 .1 .0
+    ∙ at-path-in-group .path-in-group .kept .1 .1 .1 .1 .0 ∙ at-push-child .push-child .kept .1 .1 .1 .1 .0
+    ∙ at-expect-ident .expect-ident .kept .1 .1 .1 .1 .0 ∙ at-open-here .open-here .kept .1 .1 .1 .1 .0
 
 same-length-2 : tie.Need-same-length-2
-same-length-2 c = c .before .before .before .before .before .before .close-node .kept .1 .1 .1 .1 .1 .0 ∙ c .before .before .before .before .before .before .before .before .before .before .before .before .before .before .before .before .push-alias .kept .1 .1 .1 .1 .1 .0 ∙ c .before .before .before .before .before .before .before .before .before .before .before .before .before .before .before .before .before .before .before .before .before .before .before .before .before .before .path-in-group .kept .1 .1 .1 .1 .1 .0 ∙ c .before .before .before .before .before .before .before .before .before .before .before .before .before .before .before .before .before .before .before .before .before .before .before .before .before .before .before .before .before .before .before .before .before .before .before .before .push-child .kept .1 .1 .1 .1 .1 .0 ∙ c .before .before .before .before .before .before .before .before .before .before .before .before .before .before .before .before .before .before .before .before .before .before .before .before .before .before .before .before .before .before .before .before .before .before .before .before .before .before .before .before .before .before .before .before .before .before .before .before .before .before .before .expect-ident .kept .1 .1 .1 .1 .1 .0 ∙ c .before .before .before .before .before .before .before .before .before .before .before .before .before .before .before .before .before .before .before .before .before .before .before .before .before .before .before .before .before .before .before .before .before .before .before .before .before .before .before .before .before .before .before .before .before .before .before .before .before .before .before .before .before .before .before .before .before .before .before .before .before .before .open-here .kept .1 .1 .1 .1 .1 .0
+same-length-2 c =
+    let at-close-node = c .before .before .before .before .before .before in
+    let at-push-alias = at-close-node .before .before .before .before .before .before .before .before .before .before in
+    let at-path-in-group = at-push-alias .before .before .before .before .before .before .before .before .before .before in
+    let at-push-child = at-path-in-group .before .before .before .before .before .before .before .before .before .before in
+    let at-expect-ident = at-push-child .before .before .before .before .before .before .before .before .before .before .before .before .before .before .before in
+    let at-open-here = at-expect-ident .before .before .before .before .before .before .before .before .before .before .before in
+    at-close-node .close-node .kept .1 .1 .1 .1 .1 .0 ∙ at-push-alias .push-alias .kept .1 .1 .1 .1 .1 .0
+    ∙ at-path-in-group .path-in-group .kept .1 .1 .1 .1 .1 .0 ∙ at-push-child .push-child .kept .1 .1 .1 .1 .1 .0
+    ∙ at-expect-ident .expect-ident .kept .1 .1 .1 .1 .1 .0 ∙ at-open-here .open-here .kept .1 .1 .1 .1 .1 .0
 
 same-length-3 : tie.Need-same-length-3
-same-length-3 c = c .before .before .before .before .before .before .close-node .kept .1 .1 .1 .1 .1 .1 .0 ∙ c .before .before .before .before .before .before .before .before .before .before .before .before .before .before .before .before .push-alias .kept .1 .1 .1 .1 .1 .1 .0 ∙ c .before .before .before .before .before .before .before .before .before .before .before .before .before .before .before .before .before .before .before .before .before .before .before .before .before .before .path-in-group .kept .1 .1 .1 .1 .1 .1 .0 ∙ c .before .before .before .before .before .before .before .before .before .before .before .before .before .before .before .before .before .before .before .before .before .before .before .before .before .before .before .before .before .before .before .before .before .before .before .before .push-child .kept .1 .1 .1 .1 .1 .1 .0 ∙ c .before .before .before .before .before .before .before .before .before .before .before .before .before .before .before .before .before .before .before .before .before .before .before .before .before .before .before .before .before .before .before .before .before .before .before .before .before .before .before .before .before .before .before .before .before .before .before .before .before .before .before .expect-ident .kept .1 .1 .1 .1 .1 .1 .0 ∙ c .before .before .before .before .before .before .before .before .before .before .before .before .before .before .before .before .before .before .before .before .before .before .before .before .before .before .before .before .before .before .before .before .before .before .before .before .before .before .before .before .before .before .before .before .before .before .before .before .before .before .before .before .before .before .before .before .before .before .before .before .before .before .open-here .kept .1 .1 .1 .1 .1 .1 .0
+same-length-3 c =
+    let at-close-node = c .before .before .before .before .before .before in
+    let at-push-alias = at-close-node .before .before .before .before .before .before .before .before .before .before in
+    let at-path-in-group = at-push-alias .before .before .before .before .before .before .before .before .before .before in
+    let at-push-child = at-path-in-group .before .before .before .before .before .before .before .before .before .before in
+    let at-expect-ident = at-push-child .before .before .before .before .before .before .before .before .before .before .before .before .before .before .before in
+    let at-open-here = at-expect-ident .before .before .before .before .before .before .before .before .before .before .before in
+    at-close-node .close-node .kept .1 .1 .1 .1 .1 .1 .0 ∙ at-push-alias .push-alias .kept .1 .1 .1 .1 .1 .1 .0
+    ∙ at-path-in-group .path-in-group .kept .1 .1 .1 .1 .1 .1 .0 ∙ at-push-child .push-child .kept .1 .1 .1 .1 .1 .1 .0
+    ∙ at-expect-ident .expect-ident .kept .1 .1 .1 .1 .1 .1 .0 ∙ at-open-here .open-here .kept .1 .1 .1 .1 .1 .1 .0
 
 returns : tie.Need-returns
 unfolding parseImportGroupItem
-returns c = then (c .before .before .before .before .before .before .before .before .before .before .before .before .before .before .before .before .before .before .before .before .before .before .before .before .before .before .before .before .before .before .before .before .before .before .before .before .before .before .before .before .before .before .before .before .before .before .before .before .before .before .before .before .before .before .before .before .before .before .before .before .before .before .open-here .ensures) (then (c .before .before .before .before .before .before .before .before .before .before .before .before .before .before .before .before .before .before .before .before .before .before .before .before .before .before .before .before .before .before .before .before .before .before .before .before .before .before .before .before .before .before .before .before .before .before .before .before .before .before .before .expect-ident .ensures) (then (before-is (c .before .before .before .before .before .before .before .before .before .before .before .before .before .before .before .before .before .before .before .before .before .before .before .before .before .before .before .before .before .before .before .before .before .before .before .before .before .before .before .before .before .before-start .ensures) (c .before .before .before .before .before .before .before .before .before .before .before .before .before .before .before .before .before .before .before .before .before .before .before .before .before .before .before .before .before .before .before .before .before .before .before .before .before .before .before .before .token-start .ensures)) (then (c .before .before .before .before .before .before .before .before .before .before .before .before .before .before .before .before .before .before .before .before .before .before .before .before .before .before .before .before .before .before .before .before .before .before .before .before .push-child .ensures) (regroup (then (c .before .before .before .before .before .before .before .before .before .before .before .before .before .before .before .before .before .before .before .before .before .before .before .before .before .before .path-in-group .ensures) (then (c .before .before .before .before .before .before .before .before .before .before .before .before .before .before .before .before .push-alias .ensures) (c .before .before .before .before .before .before .close-node .ensures)))))))
+returns c =
+    let at-close-node = c .before .before .before .before .before .before in
+    let at-push-alias = at-close-node .before .before .before .before .before .before .before .before .before .before in
+    let at-path-in-group = at-push-alias .before .before .before .before .before .before .before .before .before .before in
+    let at-push-child = at-path-in-group .before .before .before .before .before .before .before .before .before .before in
+    let at-token-start = at-push-child .before .before .before .before in
+    let at-before-start = at-token-start .before in
+    let at-expect-ident = at-before-start .before .before .before .before .before .before .before .before .before .before in
+    let at-open-here = at-expect-ident .before .before .before .before .before .before .before .before .before .before .before in
+    then (at-open-here .open-here .ensures) (then (at-expect-ident .expect-ident .ensures)
+    (then (before-is (at-before-start .before-start .ensures) (at-token-start .token-start .ensures))
+    (then (at-push-child .push-child .ensures) (regroup
+    (then (at-path-in-group .path-in-group .ensures) (then (at-push-alias .push-alias .ensures) (at-close-node .close-node .ensures)))))))
 
 pub parse-import-group-item-spec : {M : Type 1} → statement M
 parse-import-group-item-spec =

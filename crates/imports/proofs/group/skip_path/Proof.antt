@@ -44,15 +44,21 @@ path-turn-requires : tie.Need-path-turn-requires Inv-loop μ-loop
 path-turn-requires c κs = search needs
 
 loop-less : tie.Need-loop-less Inv-loop μ-loop
-loop-less c = omega (arith, c .before .before .before .before .before .before .before .before .before .before .before .before .before .before .before .loop-test .taken)
+loop-less c =
+    let at-loop-test = c .before .before .before .before .before .before .before .before .before .before .before .before .before .before .before in
+    omega (arith, at-loop-test .loop-test .taken)
 
 loop-again : tie.Need-loop-again Inv-loop μ-loop
-loop-again c = (
-  next-turn (c .before .before .before .before .before .before .before .before .before .before .before .before .before .before .before .before .loop .inv .0) (c .before .before .before .before .before .before .before .before .before .before .before .before .before .before .before .loop-test .taken) (rw (not-false (c .before .before .before .before .before .before .before .before .before .path-turn .result .on) (c .if2 .left)) at (c .before .before .before .before .before .before .before .before .before .path-turn .ensures)),
-  c .before .before .before .before .before .before .before .before .before .path-turn .kept .1 .1 .1 .1 .0 ∙ c .before .before .before .before .before .before .before .before .before .before .before .before .before .before .before .before .loop .inv .1,
-  c .before .before .before .before .before .before .before .before .before .path-turn .kept .1 .1 .1 .1 .1 .0 ∙ c .before .before .before .before .before .before .before .before .before .before .before .before .before .before .before .before .loop .inv .2,
-  c .before .before .before .before .before .before .before .before .before .path-turn .kept .1 .1 .1 .1 .1 .1 .0 ∙ c .before .before .before .before .before .before .before .before .before .before .before .before .before .before .before .before .loop .inv .3,
-)
+loop-again c =
+    let at-path-turn = c .before .before .before .before .before .before .before .before .before in
+    let at-loop-test = at-path-turn .before .before .before .before .before .before in
+    let at-loop = at-loop-test .before in (
+      next-turn (at-loop .loop .inv .0) (at-loop-test .loop-test .taken)
+          (rw (not-false (at-path-turn .path-turn .result .on) (c .if2 .left)) at (at-path-turn .path-turn .ensures)),
+      at-path-turn .path-turn .kept .1 .1 .1 .1 .0 ∙ at-loop .loop .inv .1,
+      at-path-turn .path-turn .kept .1 .1 .1 .1 .1 .0 ∙ at-loop .loop .inv .2,
+      at-path-turn .path-turn .kept .1 .1 .1 .1 .1 .1 .0 ∙ at-loop .loop .inv .3,
+    )
 
 same-length-4 : tie.Need-same-length-4 Inv-loop μ-loop
 same-length-4 c = c .before .loop .inv .1
@@ -67,16 +73,30 @@ returns-2 : tie.Need-returns-2 Inv-loop μ-loop
 returns-2 c = no-turn-left (c .before .loop .inv .0) (c .loop-test .left)
 
 same-length-7 : tie.Need-same-length-7 Inv-loop μ-loop
-same-length-7 c = c .before .before .before .before .before .before .before .before .before .path-turn .kept .1 .1 .1 .1 .0 ∙ c .before .before .before .before .before .before .before .before .before .before .before .before .before .before .before .before .loop .inv .1
+same-length-7 c =
+    let at-path-turn = c .before .before .before .before .before .before .before .before .before in
+    let at-loop = at-path-turn .before .before .before .before .before .before .before in
+    at-path-turn .path-turn .kept .1 .1 .1 .1 .0 ∙ at-loop .loop .inv .1
 
 same-length-8 : tie.Need-same-length-8 Inv-loop μ-loop
-same-length-8 c = c .before .before .before .before .before .before .before .before .before .path-turn .kept .1 .1 .1 .1 .1 .0 ∙ c .before .before .before .before .before .before .before .before .before .before .before .before .before .before .before .before .loop .inv .2
+same-length-8 c =
+    let at-path-turn = c .before .before .before .before .before .before .before .before .before in
+    let at-loop = at-path-turn .before .before .before .before .before .before .before in
+    at-path-turn .path-turn .kept .1 .1 .1 .1 .1 .0 ∙ at-loop .loop .inv .2
 
 same-length-9 : tie.Need-same-length-9 Inv-loop μ-loop
-same-length-9 c = c .before .before .before .before .before .before .before .before .before .path-turn .kept .1 .1 .1 .1 .1 .1 .0 ∙ c .before .before .before .before .before .before .before .before .before .before .before .before .before .before .before .before .loop .inv .3
+same-length-9 c =
+    let at-path-turn = c .before .before .before .before .before .before .before .before .before in
+    let at-loop = at-path-turn .before .before .before .before .before .before .before in
+    at-path-turn .path-turn .kept .1 .1 .1 .1 .1 .1 .0 ∙ at-loop .loop .inv .3
 
 returns-3 : tie.Need-returns-3 Inv-loop μ-loop
-returns-3 c = last-turn (c .before .before .before .before .before .before .before .before .before .before .before .before .before .before .before .before .loop .inv .0) (c .before .before .before .before .before .before .before .before .before .before .before .before .before .before .before .loop-test .taken) (rw (not-true (c .before .before .before .before .before .before .before .before .before .path-turn .result .on) (c .if2 .taken)) at (c .before .before .before .before .before .before .before .before .before .path-turn .ensures))
+returns-3 c =
+    let at-path-turn = c .before .before .before .before .before .before .before .before .before in
+    let at-loop-test = at-path-turn .before .before .before .before .before .before in
+    let at-loop = at-loop-test .before in
+    last-turn (at-loop .loop .inv .0) (at-loop-test .loop-test .taken)
+    (rw (not-true (at-path-turn .path-turn .result .on) (c .if2 .taken)) at (at-path-turn .path-turn .ensures))
 
 pub skip-path-spec : {M : Type 1} → statement M
 skip-path-spec =

@@ -16,16 +16,26 @@ emit-requires : tie.Need-emit-requires
 emit-requires c κs = search needs
 
 same-length : tie.Need-same-length
-same-length c = c .before .before .before .before .before .before .emit .kept .1 .1 .1 .1 .0
+same-length c =
+    let at-emit = c .before .before .before .before .before .before in
+    at-emit .emit .kept .1 .1 .1 .1 .0
 
 same-length-2 : tie.Need-same-length-2
-same-length-2 c = c .before .before .before .before .before .before .emit .kept .1 .1 .1 .1 .1 .0
+same-length-2 c =
+    let at-emit = c .before .before .before .before .before .before in
+    at-emit .emit .kept .1 .1 .1 .1 .1 .0
 
 same-length-3 : tie.Need-same-length-3
-same-length-3 c = c .before .before .before .before .before .before .emit .kept .1 .1 .1 .1 .1 .1 .0
+same-length-3 c =
+    let at-emit = c .before .before .before .before .before .before in
+    at-emit .emit .kept .1 .1 .1 .1 .1 .1 .0
 
 returns : tie.Need-returns
-returns c = then (before-is (c .before .before .before .before .before .before .before .before .before .before .before .before-start .ensures) (c .before .before .before .before .before .before .before .before .before .before .token-start .ensures)) (emit-does (c .before .before .before .before .before .before .emit .ensures))
+returns c =
+    let at-emit = c .before .before .before .before .before .before in
+    let at-token-start = at-emit .before .before .before .before in
+    let at-before-start = at-token-start .before in
+    then (before-is (at-before-start .before-start .ensures) (at-token-start .token-start .ensures)) (emit-does (at-emit .emit .ensures))
 
 pub star-in-group-spec : {M : Type 1} → statement M
 star-in-group-spec =

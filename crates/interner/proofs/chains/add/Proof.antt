@@ -22,10 +22,31 @@ wide-requires : tie.Need-wide-requires
 wide-requires c κs = search needs
 
 search-requires : tie.Need-search-requires
-search-requires c κs = ((c .before .before .before .before .before .before .before .before .before .before .before .pre .0 .0, omega arith, c .before .before .before .before .before .before .before .before .before .before .before .pre .0 .3), (c .before .before .before .before .before .before .before .before .before .before .before .pre .1 .told, (c .before .before .before .before .before .before .before .before .before .before .before .pre .1 .linked, head-is _ _ _ (c .before .before .before .before .before .before .before .before .before .before .before .pre .0 .3) _ (bucket-is _ _ _ _ _ (c .before .before .before .before .before .spelling .ensures) (c .before .before .before .before .hash .ensures .0)) (c .before .before .before .before .hash .ensures .1) _ (c .before .before .before .before .before .before .before .before .before .before .before .pre .1 .newest) _ (c .wide .ensures))))
+search-requires c κs =
+    let at-hash = c .before .before .before .before in
+    let at-spelling = at-hash .before in
+    let at-start = at-spelling .before .before .before .before .before .before in (
+      (at-start .pre .0 .0, omega arith, at-start .pre .0 .3),
+      (
+        at-start .pre .1 .told,
+        (
+          at-start .pre .1 .linked,
+          head-is _ _ _ (at-start .pre .0 .3) _
+              (bucket-is _ _ _ _ _ (at-spelling .spelling .ensures .0) (at-hash .hash .ensures .0)) (at-hash .hash .ensures .1) _ (at-start .pre .1 .newest) _
+              (c .wide .ensures),
+        ),
+      ),
+    )
 
 put-requires : tie.Need-put-requires
-put-requires c κs = (c .before .before .before .before .before .before .before .before .before .before .before .before .before .pre .1 .told .long, omega arith, first-small _ (c .before .before .before .before .before .before .before .before .before .before .before .before .before .args .tokens .now) _ (c .before .before .before .before .before .before .before .before .before .before .before .before .before .pre .0 .0) _ 65536 (c .before .search .ensures) (omega arith))
+put-requires c κs =
+    let at-search = c .before in
+    let at-start = at-search .before .before .before .before .before .before .before .before .before .before .before .before in (
+      at-start .pre .1 .told .long,
+      omega arith,
+      first-small _ (at-start .args .tokens .now) _ (at-start .pre .0 .0) _ 65536 (at-search .search .ensures)
+          (omega arith),
+    )
 
 mul-links : tie.Need-mul-links
 mul-links c = search needs
@@ -55,7 +76,15 @@ same-length-3 : tie.Need-same-length-3
 same-length-3 c = search needs
 
 returns : tie.Need-returns
-returns c = state-more _ _ _ (c .before .before .before .before .before .before .before .before .before .before .before .before .before .before .before .before .pre .0 .3) _ (bucket-is _ _ _ _ _ (c .before .before .before .before .before .before .before .before .before .before .spelling .ensures) (c .before .before .before .before .before .before .before .before .before .hash .ensures .0)) (c .before .before .before .before .before .before .before .before .before .hash .ensures .1) _ _ _ _ (c .before .before .before .before .search .ensures) (c .before .before .before .before .before .before .before .before .before .before .before .before .before .before .before .before .pre .0 .2) (c .before .before .before .before .before .before .before .before .before .before .before .before .before .before .before .before .pre .0 .1) _ (c .before .before .put .ensures) (c .before .before .before .before .before .before .before .before .before .before .before .before .before .before .before .before .pre .1)
+returns c =
+    let at-put = c .before .before in
+    let at-search = at-put .before .before in
+    let at-hash = at-search .before .before .before .before .before in
+    let at-spelling = at-hash .before in
+    let at-start = at-spelling .before .before .before .before .before .before in
+    state-more _ _ _ (at-start .pre .0 .3) _ (bucket-is _ _ _ _ _ (at-spelling .spelling .ensures .0) (at-hash .hash .ensures .0))
+    (at-hash .hash .ensures .1) _ _ _ _ (at-search .search .ensures) (at-start .pre .0 .2) (at-start .pre .0 .1) _ (at-put .put .ensures)
+    (at-start .pre .1)
 
 pub add-spec : {M : Type 1} → statement M
 add-spec =

@@ -27,7 +27,15 @@ loop-less : tie.Need-loop-less Inv-loop μ-loop
 loop-less c = search needs
 
 loop-again : tie.Need-loop-again Inv-loop μ-loop
-loop-again c = (search needs, c .before .before .before .before .before .before .step .kept .1 .1 .0 ∙ c .before .before .before .before .before .before .before .before .before .before .before .loop .inv .1, c .before .before .before .before .before .before .step .kept .1 .1 .1 .0 ∙ c .before .before .before .before .before .before .before .before .before .before .before .loop .inv .2, c .before .before .before .before .before .before .step .kept .1 .1 .1 .1 .0 ∙ c .before .before .before .before .before .before .before .before .before .before .before .loop .inv .3, c .before .before .before .before .before .before .step .ensures)
+loop-again c =
+    let at-step = c .before .before .before .before .before .before in
+    let at-loop = at-step .before .before .before .before .before in (
+      search needs,
+      at-step .step .kept .1 .1 .0 ∙ at-loop .loop .inv .1,
+      at-step .step .kept .1 .1 .1 .0 ∙ at-loop .loop .inv .2,
+      at-step .step .kept .1 .1 .1 .1 .0 ∙ at-loop .loop .inv .3,
+      at-step .step .ensures,
+    )
 
 same-length : tie.Need-same-length Inv-loop μ-loop
 same-length c = search needs
@@ -39,7 +47,10 @@ same-length-3 : tie.Need-same-length-3 Inv-loop μ-loop
 same-length-3 c = search needs
 
 returns : tie.Need-returns Inv-loop μ-loop
-returns c = let z : c .before .loop .i ≡ c .before .before .before .before .before .before .before .args .n = omega arith in rw z at (c .before .loop .inv .4 .told)
+returns c =
+    let at-loop = c .before in
+    let at-args = at-loop .before .before .before .before .before .before in
+    let z : at-loop .loop .i ≡ at-args .args .n = omega arith in rw z at (at-loop .loop .inv .4 .told)
 
 pub fill-spec : {M : Type 1} → statement M
 fill-spec =

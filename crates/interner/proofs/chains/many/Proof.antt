@@ -12,7 +12,9 @@ slice-aggregate-fill-2 : tie.Need-slice-aggregate-fill-2
 slice-aggregate-fill-2 c = search needs
 
 fill-requires : tie.Need-fill-requires
-fill-requires c κs = ((c .before .before .before .before .before .before .pre .0 .0, omega arith, room-for _ 32768 (c .before .before .before .before .before .before .pre .0 .1)), state-none _ _ _ _ (c .before .before .before .before .before .before .pre .1))
+fill-requires c κs =
+    let at-pre = c .before .before .before .before .before .before in
+    ((at-pre .pre .0 .0, omega arith, room-for _ 32768 (at-pre .pre .0 .1)), state-none _ _ _ _ (at-pre .pre .1))
 
 same-length : tie.Need-same-length
 same-length c = search needs

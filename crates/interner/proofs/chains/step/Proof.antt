@@ -12,7 +12,20 @@ is-name-requires : tie.Need-is-name-requires
 is-name-requires c κs = search needs
 
 add-requires : tie.Need-add-requires
-add-requires c κs = ((c .before .before .before .before .before .before .before .before .before .before .before .pre .0 .0, c .before .before .before .before .before .before .before .before .before .before .before .pre .0 .1, c .before .before .before .before .before .before .before .before .before .before .before .pre .0 .2, name-is _ _ _ _ _ (c .before .before .before .before .before .kind-at .ensures) (c .before .before .before .before .is-name .ensures) (c .before .before .before .if1 .taken)), c .before .before .before .before .before .before .before .before .before .before .before .pre .1)
+add-requires c κs =
+    let at-if1 = c .before .before .before in
+    let at-is-name = at-if1 .before in
+    let at-kind-at = at-is-name .before in
+    let at-pre = at-kind-at .before .before .before .before .before .before in (
+      (
+        at-pre .pre .0 .0,
+        at-pre .pre .0 .1,
+        at-pre .pre .0 .2,
+        name-is _ _ _ _ _ (at-kind-at .kind-at .ensures) (at-is-name .is-name .ensures)
+            (at-if1 .if1 .taken),
+      ),
+      at-pre .pre .1,
+    )
 
 same-length : tie.Need-same-length
 same-length c = search needs
@@ -27,7 +40,12 @@ returns : tie.Need-returns
 returns c = search needs
 
 returns-2 : tie.Need-returns-2
-returns-2 c = state-skip _ _ _ _ _ _ (name-is _ _ _ _ _ (c .before .before .kind-at .ensures) (c .before .is-name .ensures) (c .if1 .left)) (c .before .before .before .before .before .before .before .before .pre .0 .2) (c .before .before .before .before .before .before .before .before .pre .1)
+returns-2 c =
+    let at-is-name = c .before in
+    let at-kind-at = at-is-name .before in
+    let at-pre = at-kind-at .before .before .before .before .before .before in
+    state-skip _ _ _ _ _ _ (name-is _ _ _ _ _ (at-kind-at .kind-at .ensures) (at-is-name .is-name .ensures) (c .if1 .left)) (at-pre .pre .0 .2)
+    (at-pre .pre .1)
 
 pub step-spec : {M : Type 1} → statement M
 step-spec =

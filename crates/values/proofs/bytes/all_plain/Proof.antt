@@ -26,7 +26,20 @@ plain-requires-4 : tie.Need-plain-requires-4
 plain-requires-4 c κs = search needs
 
 returns-4 : tie.Need-returns-4
-returns-4 c = λ e. record { first = c .before .before .before .before .before .before .plain .ensures (unless _ (c .before .before .before .before .before .if1 .left)); second = c .before .before .before .before .plain2 .ensures (unless _ (c .before .before .before .if2 .left)); third = c .before .before .plain3 .ensures (unless _ (c .before .if3 .left)); fourth = c .plain4 .ensures e }
+returns-4 c =
+    let at-if3 = c .before in
+    let at-plain3 = at-if3 .before in
+    let at-if2 = at-plain3 .before in
+    let at-plain2 = at-if2 .before in
+    let at-if1 = at-plain2 .before in
+    let at-plain = at-if1 .before in
+    λ e. record {
+      first = at-plain .plain .ensures (unless _ (at-if1 .if1 .left));
+      second = at-plain2 .plain2 .ensures
+          (unless _ (at-if2 .if2 .left));
+      third = at-plain3 .plain3 .ensures (unless _ (at-if3 .if3 .left));
+      fourth = c .plain4 .ensures e;
+    }
 
 pub all-plain-spec : {M : Type 1} → statement M
 all-plain-spec =

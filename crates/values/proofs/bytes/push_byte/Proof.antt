@@ -9,7 +9,10 @@ enum-known-count : tie.Need-enum-known-count
 enum-known-count c = search needs
 
 returns : tie.Need-returns
-returns c = push-none _ _ (c .before .before .before .before .before .pre) _ _ refl _ _ (c .before .before .count .given .1) (c .if1 .taken)
+returns c =
+    let at-count = c .before .before in
+    let at-pre = at-count .before .before .before in
+    push-none _ _ (at-pre .pre) _ _ refl _ _ (at-count .count .given .1) (c .if1 .taken)
 
 add-start : tie.Need-add-start
 add-start c = search needs
@@ -36,7 +39,14 @@ same-length : tie.Need-same-length
 same-length c = search needs
 
 returns-2 : tie.Need-returns-2
-returns-2 c = push-put _ _ (c .before .before .before .before .before .before .before .before .before .pre) _ _ (c .before .values .given .1) _ _ (c .before .before .before .before .before .before .count .given .1) (c .before .before .before .before .if1 .left) _ _ (c .before .before .put-byte .ensures) refl
+returns-2 c =
+    let at-values = c .before in
+    let at-put-byte = at-values .before in
+    let at-if1 = at-put-byte .before .before in
+    let at-count = at-if1 .before .before in
+    let at-pre = at-count .before .before .before in
+    push-put _ _ (at-pre .pre) _ _ (at-values .values .given .1) _ _ (at-count .count .given .1) (at-if1 .if1 .left) _ _
+    (at-put-byte .put-byte .ensures) refl
 
 returns-3 : tie.Need-returns-3
 returns-3 c = push-still _ _ (c .before .before .before .pre) _ _ refl _ (c .enum-told .given .1)

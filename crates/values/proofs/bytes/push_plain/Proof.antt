@@ -54,7 +54,10 @@ same-length : tie.Need-same-length
 same-length c = search needs
 
 returns-4 : tie.Need-returns-4
-returns-4 c = rw (c .before .before .before .before .before .before .before .before .before .count .given .1) (c .before .before .put-words .ensures .1)
+returns-4 c =
+    let at-put-words = c .before .before in
+    let at-count = at-put-words .before .before .before .before .before .before .before in
+    rw (at-count .count .given .1) (at-put-words .put-words .ensures .1)
 
 returns-5 : tie.Need-returns-5
 returns-5 c = λ base. stretch-none _ _ _ _ _ _ (omega arith)

@@ -8,10 +8,6 @@ use borrow.Author.Needs.{needs}
 use native.Mathlib.Omega.{arith}
 use Rattle.values.proofs.bytes.put_words.Statement.{statement}
 use Rattle.values.proofs.bytes.put_words.Tie as tie
-use Rattle.values.proofs.bytes.put_words.Reads as reads
-use Rattle.values.proofs.bytes.put_words.Lts as lts
-use Rattle.values.proofs.bytes.all_plain.Reads as all-plain-reads
-use Rattle.values.proofs.bytes.word.Reads as word-reads
 
 abbrev Inv-loop : tie.InvT-loop
 Inv-loop values₀ at n w i limit first t₀ values t = (t ≤ limit) × (length values ≡ length values₀) × ((base : ℕ) → Stretch base w i (i + 4 * t) at (Words n) values₀ (Words (n + 4 * t)) values)
@@ -83,7 +79,16 @@ loop-less : tie.Need-loop-less Inv-loop μ-loop
 loop-less c = search needs
 
 loop-again : tie.Need-loop-again Inv-loop μ-loop
-loop-again c = (omega arith, simp length-set (c .before .before .before .before .before .before .before .before .loop .inv .1), λ base. stretch-next base _ _ _ _ _ _ _ _ (c .before .before .before .before .before .before .before .before .loop .inv .2 base) (omega arith) (c .before .before .all-plain .ensures (unless _ (c .before .if1 .left))) (c .before .before .before .before .before .before .before .before .before .before .before .pre .0) (omega arith) _ (c .word .ensures))
+loop-again c =
+    let at-if1 = c .before in
+    let at-all-plain = at-if1 .before in
+    let at-loop = at-all-plain .before .before .before .before .before .before in
+    let at-pre = at-loop .before .before .before in (
+      omega arith,
+      simp length-set (at-loop .loop .inv .1),
+      λ base. stretch-next base _ _ _ _ _ _ _ _ (at-loop .loop .inv .2 base) (omega arith)
+          (at-all-plain .all-plain .ensures (unless _ (at-if1 .if1 .left))) (at-pre .pre .0) (omega arith) _ (c .word .ensures),
+    )
 
 same-length-2 : tie.Need-same-length-2 Inv-loop μ-loop
 same-length-2 c = search needs

@@ -26,7 +26,10 @@ sub-i : tie.Need-sub-i Inv-loop μ-loop
 sub-i c = search needs
 
 shared-slice-read-c : tie.Need-shared-slice-read-c Inv-loop μ-loop
-shared-slice-read-c c = omega (arith, c .before .before .before .loop .inv .within, c .before .before .before .before .before .pre)
+shared-slice-read-c c =
+    let at-loop = c .before .before .before in
+    let at-pre = at-loop .before .before in
+    omega (arith, at-loop .loop .inv .within, at-pre .pre)
 
 cast-c : tie.Need-cast-c Inv-loop μ-loop
 cast-c c = omega (arith, c .shared-slice-known2 .given (c .before .before .before .loop .i - 1))
@@ -41,19 +44,58 @@ wide-requires : tie.Need-wide-requires Inv-loop μ-loop
 wide-requires c κs = search needs
 
 mul-value : tie.Need-mul-value Inv-loop μ-loop
-mul-value c = omega (arith, digit-fits _ _ _ (c .before .before .before .before .before .before .before .before .before .before .pre) _ _ _ (c .before .before .before .before .before .before .before .before .loop .inv) (c .before .before .before .before .before .before .if1 .left) (c .before .before .before .before .before .before .before .loop-test .taken) _ refl _ (rw (c .before .before .digit .given .1) at (c .before .before .before .before .nibble .ensures .0)) (rw (c .before .before .digit .given .1) at (c .before .before .before .before .nibble .ensures .1)) _ (c .wide .ensures), unit-fits _ _ _ (c .before .before .before .before .before .before .before .before .before .before .pre) _ _ _ (c .before .before .before .before .before .before .before .before .loop .inv))
+mul-value c =
+    let at-digit = c .before .before in
+    let at-nibble = at-digit .before .before in
+    let at-if1 = at-nibble .before .before in
+    let at-loop-test = at-if1 .before in
+    let at-loop = at-loop-test .before in
+    let at-pre = at-loop .before .before in
+    omega (
+      arith,
+      digit-fits _ _ _ (at-pre .pre) _ _ _ (at-loop .loop .inv) (at-if1 .if1 .left) (at-loop-test .loop-test .taken) _ refl _
+          (rw (at-digit .digit .given .1) at (at-nibble .nibble .ensures .0)) (rw (at-digit .digit .given .1) at (at-nibble .nibble .ensures .1)) _
+          (c .wide .ensures),
+      unit-fits _ _ _ (at-pre .pre) _ _ _ (at-loop .loop .inv),
+    )
 
 add-value : tie.Need-add-value Inv-loop μ-loop
-add-value c = omega (arith, digit-fits _ _ _ (c .before .before .before .before .before .before .before .before .before .before .pre) _ _ _ (c .before .before .before .before .before .before .before .before .loop .inv) (c .before .before .before .before .before .before .if1 .left) (c .before .before .before .before .before .before .before .loop-test .taken) _ refl _ (rw (c .before .before .digit .given .1) at (c .before .before .before .before .nibble .ensures .0)) (rw (c .before .before .digit .given .1) at (c .before .before .before .before .nibble .ensures .1)) _ (c .wide .ensures), unit-fits _ _ _ (c .before .before .before .before .before .before .before .before .before .before .pre) _ _ _ (c .before .before .before .before .before .before .before .before .loop .inv), c .before .before .before .before .before .before .before .before .loop .inv .fits)
+add-value c =
+    let at-digit = c .before .before in
+    let at-nibble = at-digit .before .before in
+    let at-if1 = at-nibble .before .before in
+    let at-loop-test = at-if1 .before in
+    let at-loop = at-loop-test .before in
+    let at-pre = at-loop .before .before in
+    omega (
+      arith,
+      digit-fits _ _ _ (at-pre .pre) _ _ _ (at-loop .loop .inv) (at-if1 .if1 .left) (at-loop-test .loop-test .taken) _ refl _
+          (rw (at-digit .digit .given .1) at (at-nibble .nibble .ensures .0)) (rw (at-digit .digit .given .1) at (at-nibble .nibble .ensures .1)) _
+          (c .wide .ensures),
+      unit-fits _ _ _ (at-pre .pre) _ _ _ (at-loop .loop .inv),
+      at-loop .loop .inv .fits,
+    )
 
 mul-unit : tie.Need-mul-unit Inv-loop μ-loop
-mul-unit c = omega (arith, unit-fits _ _ _ (c .before .before .before .before .before .before .before .before .before .before .pre) _ _ _ (c .before .before .before .before .before .before .before .before .loop .inv))
+mul-unit c =
+    let at-loop = c .before .before .before .before .before .before .before .before in
+    let at-pre = at-loop .before .before in
+    omega (arith, unit-fits _ _ _ (at-pre .pre) _ _ _ (at-loop .loop .inv))
 
 loop-less : tie.Need-loop-less Inv-loop μ-loop
 loop-less c = search needs
 
 loop-again : tie.Need-loop-again Inv-loop μ-loop
-loop-again c = digits-next _ _ _ (c .before .before .before .before .before .before .before .before .before .before .pre) _ _ _ (c .before .before .before .before .before .before .before .before .loop .inv) (c .before .before .before .before .before .before .if1 .left) (c .before .before .before .before .before .before .before .loop-test .taken) _ refl _ (rw (c .before .before .digit .given .1) at (c .before .before .before .before .nibble .ensures .0)) (rw (c .before .before .digit .given .1) at (c .before .before .before .before .nibble .ensures .1)) _ (c .wide .ensures)
+loop-again c =
+    let at-digit = c .before .before in
+    let at-nibble = at-digit .before .before in
+    let at-if1 = at-nibble .before .before in
+    let at-loop-test = at-if1 .before in
+    let at-loop = at-loop-test .before in
+    let at-pre = at-loop .before .before in
+    digits-next _ _ _ (at-pre .pre) _ _ _ (at-loop .loop .inv) (at-if1 .if1 .left) (at-loop-test .loop-test .taken) _ refl _
+    (rw (at-digit .digit .given .1) at (at-nibble .nibble .ensures .0)) (rw (at-digit .digit .given .1) at (at-nibble .nibble .ensures .1)) _
+    (c .wide .ensures)
 
 enum-told : tie.Need-enum-told Inv-loop μ-loop
 enum-told c = search needs
@@ -62,7 +104,14 @@ loop-less-2 : tie.Need-loop-less-2 Inv-loop μ-loop
 loop-less-2 c = search needs
 
 loop-again-2 : tie.Need-loop-again-2 Inv-loop μ-loop
-loop-again-2 c = digits-none _ _ _ (c .before .before .before .before .before .before .before .before .pre) _ _ _ (c .before .before .before .before .before .before .loop .inv) (c .before .before .before .before .if1 .left) (c .before .before .before .before .before .loop-test .taken) _ refl (rw (c .enum-told .given .1) at (c .before .before .nibble .ensures .0))
+loop-again-2 c =
+    let at-nibble = c .before .before in
+    let at-if1 = at-nibble .before .before in
+    let at-loop-test = at-if1 .before in
+    let at-loop = at-loop-test .before in
+    let at-pre = at-loop .before .before in
+    digits-none _ _ _ (at-pre .pre) _ _ _ (at-loop .loop .inv) (at-if1 .if1 .left) (at-loop-test .loop-test .taken) _ refl
+    (rw (c .enum-told .given .1) at (at-nibble .nibble .ensures .0))
 
 cast-t16 : tie.Need-cast-t16 Inv-loop μ-loop
 cast-t16 c = omega (arith, c .before .loop .inv .fits, unit-fits _ _ _ (c .before .before .before .pre) _ _ _ (c .before .loop .inv))

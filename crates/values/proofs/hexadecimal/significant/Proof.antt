@@ -33,13 +33,23 @@ enum-known-digit : tie.Need-enum-known-digit Inv-loop μ-loop
 enum-known-digit c = search needs
 
 counted-requires : tie.Need-counted-requires Inv-loop μ-loop
-counted-requires c κs = (rw (c .before .digit .given .1) at (c .before .before .before .nibble .ensures .1), omega (arith, c .before .before .before .before .before .before .loop .inv .within))
+counted-requires c κs =
+    let at-digit = c .before in
+    let at-nibble = at-digit .before .before in
+    let at-loop = at-nibble .before .before .before in
+    (rw (at-digit .digit .given .1) at (at-nibble .nibble .ensures .1), omega (arith, at-loop .loop .inv .within))
 
 loop-less : tie.Need-loop-less Inv-loop μ-loop
 loop-less c = search needs
 
 loop-again : tie.Need-loop-again Inv-loop μ-loop
-loop-again c = counted-some _ _ _ _ (c .before .before .before .before .before .before .before .loop .inv) _ refl (c .before .before .before .before .before .before .loop-test .taken) _ _ (rw (c .before .before .digit .given .1) at (c .before .before .before .before .nibble .ensures .0)) (c .counted .ensures)
+loop-again c =
+    let at-digit = c .before .before in
+    let at-nibble = at-digit .before .before in
+    let at-loop-test = at-nibble .before .before in
+    let at-loop = at-loop-test .before in
+    counted-some _ _ _ _ (at-loop .loop .inv) _ refl (at-loop-test .loop-test .taken) _ _
+    (rw (at-digit .digit .given .1) at (at-nibble .nibble .ensures .0)) (c .counted .ensures)
 
 enum-told : tie.Need-enum-told Inv-loop μ-loop
 enum-told c = search needs
@@ -48,7 +58,11 @@ loop-less-2 : tie.Need-loop-less-2 Inv-loop μ-loop
 loop-less-2 c = search needs
 
 loop-again-2 : tie.Need-loop-again-2 Inv-loop μ-loop
-loop-again-2 c = counted-none _ _ _ _ (c .before .before .before .before .before .loop .inv) _ refl (c .before .before .before .before .loop-test .taken) (rw (c .enum-told .given .1) at (c .before .before .nibble .ensures .0))
+loop-again-2 c =
+    let at-nibble = c .before .before in
+    let at-loop-test = at-nibble .before .before in
+    let at-loop = at-loop-test .before in
+    counted-none _ _ _ _ (at-loop .loop .inv) _ refl (at-loop-test .loop-test .taken) (rw (c .enum-told .given .1) at (at-nibble .nibble .ensures .0))
 
 returns : tie.Need-returns Inv-loop μ-loop
 returns c = counted-last _ _ _ _ (c .before .loop .inv) (c .loop-test .left)

@@ -1,6 +1,6 @@
 -- `chunk_at` meets its contract: the digits so far, and those that are left, make what they all do.
 use mathlib.Core.Path.{refl}
-use Prim.Native.Nat.{_-_, _<_}
+use Prim.Native.Nat.{_-_}
 use lib.ListN.{length}
 use Rattle.values.specs.Chunks.{Chunked, chunked-first, chunked-last, chunked-full, chunk-fits, unit-fits, chunked-none, chunked-some}
 use borrow.Author.Needs.{needs}
@@ -36,19 +36,51 @@ enum-known-digit : tie.Need-enum-known-digit Inv-loop μ-loop
 enum-known-digit c = search needs
 
 mul-value : tie.Need-mul-value Inv-loop μ-loop
-mul-value c = omega (arith, chunk-fits _ _ _ _ _ _ (c .before .before .before .before .before .before .before .loop .inv) (c .before .before .before .before .before .if1 .left) (c .before .before .before .before .before .before .before .before .before .pre .1) _ (rw (c .before .digit .given .1) at (c .before .before .before .nibble .ensures .1)))
+mul-value c =
+    let at-digit = c .before in
+    let at-nibble = at-digit .before .before in
+    let at-if1 = at-nibble .before .before in
+    let at-loop = at-if1 .before .before in
+    let at-pre = at-loop .before .before in
+    omega (
+      arith,
+      chunk-fits _ _ _ _ _ _ (at-loop .loop .inv) (at-if1 .if1 .left) (at-pre .pre .1) _
+          (rw (at-digit .digit .given .1) at (at-nibble .nibble .ensures .1)),
+    )
 
 add-value : tie.Need-add-value Inv-loop μ-loop
-add-value c = omega (arith, chunk-fits _ _ _ _ _ _ (c .before .before .before .before .before .before .before .loop .inv) (c .before .before .before .before .before .if1 .left) (c .before .before .before .before .before .before .before .before .before .pre .1) _ (rw (c .before .digit .given .1) at (c .before .before .before .nibble .ensures .1)))
+add-value c =
+    let at-digit = c .before in
+    let at-nibble = at-digit .before .before in
+    let at-if1 = at-nibble .before .before in
+    let at-loop = at-if1 .before .before in
+    let at-pre = at-loop .before .before in
+    omega (
+      arith,
+      chunk-fits _ _ _ _ _ _ (at-loop .loop .inv) (at-if1 .if1 .left) (at-pre .pre .1) _
+          (rw (at-digit .digit .given .1) at (at-nibble .nibble .ensures .1)),
+    )
 
 mul-unit : tie.Need-mul-unit Inv-loop μ-loop
-mul-unit c = omega (arith, unit-fits _ _ _ _ _ _ (c .before .before .before .before .before .before .before .loop .inv) (c .before .before .before .before .before .if1 .left) (c .before .before .before .before .before .before .before .before .before .pre .1))
+mul-unit c =
+    let at-if1 = c .before .before .before .before .before in
+    let at-loop = at-if1 .before .before in
+    let at-pre = at-loop .before .before in
+    omega (arith, unit-fits _ _ _ _ _ _ (at-loop .loop .inv) (at-if1 .if1 .left) (at-pre .pre .1))
 
 loop-less : tie.Need-loop-less Inv-loop μ-loop
 loop-less c = search needs
 
 loop-again : tie.Need-loop-again Inv-loop μ-loop
-loop-again c = chunked-some _ _ _ _ _ _ (c .before .before .before .before .before .before .before .loop .inv) _ refl (c .before .before .before .before .before .before .loop-test .taken) _ (rw (c .before .digit .given .1) at (c .before .before .before .nibble .ensures .0)) (rw (c .before .digit .given .1) at (c .before .before .before .nibble .ensures .1)) (c .before .before .before .before .before .before .before .before .before .pre .1)
+loop-again c =
+    let at-digit = c .before in
+    let at-nibble = at-digit .before .before in
+    let at-loop-test = at-nibble .before .before .before in
+    let at-loop = at-loop-test .before in
+    let at-pre = at-loop .before .before in
+    chunked-some _ _ _ _ _ _ (at-loop .loop .inv) _ refl (at-loop-test .loop-test .taken) _
+    (rw (at-digit .digit .given .1) at (at-nibble .nibble .ensures .0)) (rw (at-digit .digit .given .1) at (at-nibble .nibble .ensures .1))
+    (at-pre .pre .1)
 
 enum-told : tie.Need-enum-told Inv-loop μ-loop
 enum-told c = search needs
@@ -57,7 +89,12 @@ loop-less-2 : tie.Need-loop-less-2 Inv-loop μ-loop
 loop-less-2 c = search needs
 
 loop-again-2 : tie.Need-loop-again-2 Inv-loop μ-loop
-loop-again-2 c = chunked-none _ _ _ _ _ _ (c .before .before .before .before .before .before .loop .inv) _ refl (c .before .before .before .before .before .loop-test .taken) (rw (c .enum-told .given .1) at (c .before .before .nibble .ensures .0))
+loop-again-2 c =
+    let at-nibble = c .before .before in
+    let at-loop-test = at-nibble .before .before .before in
+    let at-loop = at-loop-test .before in
+    chunked-none _ _ _ _ _ _ (at-loop .loop .inv) _ refl (at-loop-test .loop-test .taken)
+    (rw (c .enum-told .given .1) at (at-nibble .nibble .ensures .0))
 
 returns-2 : tie.Need-returns-2 Inv-loop μ-loop
 returns-2 c = chunked-last _ _ _ _ _ _ (c .before .loop .inv) (c .before .before .before .pre .0) (c .loop-test .left)

@@ -19,13 +19,20 @@ same-length : tie.Need-same-length
 same-length c = search needs
 
 returns : tie.Need-returns
-returns c = pushed-same _ _ _ _ (c .before .before .before .before .before .before .pre) _ _ (search needs) (c .before .before .before .times .ensures) (c .if1 .taken)
+returns c =
+    let at-times = c .before .before .before in
+    let at-pre = at-times .before .before .before in
+    pushed-same _ _ _ _ (at-pre .pre) _ _ (search needs) (at-times .times .ensures) (c .if1 .taken)
 
 same-length-2 : tie.Need-same-length-2
 same-length-2 c = search needs
 
 returns-2 : tie.Need-returns-2
-returns-2 c = pushed-full _ _ _ _ (c .before .before .before .before .before .before .before .pre) _ _ (search needs) (c .before .before .before .before .times .ensures) (c .before .if1 .left) (c .if2 .taken)
+returns-2 c =
+    let at-if1 = c .before in
+    let at-times = at-if1 .before .before .before in
+    let at-pre = at-times .before .before .before in
+    pushed-full _ _ _ _ (at-pre .pre) _ _ (search needs) (at-times .times .ensures) (at-if1 .if1 .left) (c .if2 .taken)
 
 mul-room : tie.Need-mul-room
 mul-room c = search needs
@@ -40,7 +47,11 @@ same-length-3 : tie.Need-same-length-3
 same-length-3 c = search needs
 
 returns-3 : tie.Need-returns-3
-returns-3 c = pushed-more _ _ _ _ (c .before .before .before .before .before .before .before .pre) _ _ (search needs) (c .before .before .before .before .times .ensures) (c .before .if1 .left) (c .if2 .left)
+returns-3 c =
+    let at-if1 = c .before in
+    let at-times = at-if1 .before .before .before in
+    let at-pre = at-times .before .before .before in
+    pushed-more _ _ _ _ (at-pre .pre) _ _ (search needs) (at-times .times .ensures) (at-if1 .if1 .left) (c .if2 .left)
 
 pub push-spec : {M : Type 1} → statement M
 push-spec =

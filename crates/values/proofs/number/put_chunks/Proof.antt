@@ -27,19 +27,37 @@ enum-known-m : tie.Need-enum-known-m Inv-loop μ-loop
 enum-known-m c = search needs
 
 loop-less : tie.Need-loop-less Inv-loop μ-loop
-loop-less c = omega (arith, c .before .before .before .before .before .before .before .chunk-at .ensures .on)
+loop-less c =
+    let at-chunk-at = c .before .before .before .before .before .before .before in
+    omega (arith, at-chunk-at .chunk-at .ensures .on)
 
 loop-again : tie.Need-loop-again Inv-loop μ-loop
-loop-again c = digits-more _ _ _ _ _ _ _ (c .before .before .before .before .before .before .before .before .before .loop .inv) (omega (arith, c .before .before .before .before .before .before .before .before .before .before .before .before .pre .0)) _ _ _ (c .before .before .before .before .before .before .before .chunk-at .ensures) _ _ (c .before .before .before .before .before .push .ensures) _ (c .before .m .given .1)
+loop-again c =
+    let at-m = c .before in
+    let at-push = at-m .before .before .before .before in
+    let at-chunk-at = at-push .before .before in
+    let at-loop = at-chunk-at .before .before in
+    let at-pre = at-loop .before .before .before in
+    digits-more _ _ _ _ _ _ _ (at-loop .loop .inv) (omega (arith, at-pre .pre .0)) _ _ _ (at-chunk-at .chunk-at .ensures) _ _
+    (at-push .push .ensures) _ (at-m .m .given .1)
 
 enum-told : tie.Need-enum-told Inv-loop μ-loop
 enum-told c = search needs
 
 same-length : tie.Need-same-length Inv-loop μ-loop
-same-length c = c .before .before .before .room .given ∙ room-length _ _ _ _ _ _ _ (c .before .before .before .before .before .before .before .before .loop .inv)
+same-length c =
+    let at-room = c .before .before .before in
+    let at-loop = at-room .before .before .before .before .before in
+    at-room .room .given ∙ room-length _ _ _ _ _ _ _ (at-loop .loop .inv)
 
 returns : tie.Need-returns Inv-loop μ-loop
-returns c = digits-full _ _ _ _ _ _ _ (c .before .before .before .before .before .before .before .before .loop .inv) (omega (arith, c .before .before .before .before .before .before .before .before .before .before .before .pre .0)) _ _ _ (c .before .before .before .before .before .before .chunk-at .ensures) _ _ (c .before .before .before .before .push .ensures) (c .enum-told .given .1)
+returns c =
+    let at-push = c .before .before .before .before in
+    let at-chunk-at = at-push .before .before in
+    let at-loop = at-chunk-at .before .before in
+    let at-pre = at-loop .before .before .before in
+    digits-full _ _ _ _ _ _ _ (at-loop .loop .inv) (omega (arith, at-pre .pre .0)) _ _ _ (at-chunk-at .chunk-at .ensures) _ _
+    (at-push .push .ensures) (c .enum-told .given .1)
 
 same-length-2 : tie.Need-same-length-2 Inv-loop μ-loop
 same-length-2 c = room-length _ _ _ _ _ _ _ (c .before .loop .inv)

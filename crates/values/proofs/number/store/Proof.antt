@@ -41,7 +41,16 @@ slice-write-values : tie.Need-slice-write-values
 slice-write-values c = search needs
 
 add-t17 : tie.Need-add-t17
-add-t17 c = omega (arith, kept-end 0 (limbs (digits (c .before .before .before .before .before .before .before .before .before .before .before .args .radix) 0 (drop (c .before .before .before .before .before .before .before .before .before .before .before .args .prefix) (c .before .before .before .before .before .before .before .before .before .before .before .args .source .now)))) (c .before .before .before .before .before .before .before .before .before .before .before .args .values .now) _ (c .before .before .before .before .before .before .before .before .if1 .left) _ _ (c .before .before .before .before .before .before .put .ensures) _ (c .before .before .n .given .1))
+add-t17 c =
+    let at-n = c .before .before in
+    let at-put = at-n .before .before .before .before in
+    let at-if1 = at-put .before .before in
+    let at-args = at-if1 .before .before .before in
+    omega (
+      arith,
+      kept-end 0 (limbs (digits (at-args .args .radix) 0 (drop (at-args .args .prefix) (at-args .args .source .now))))
+          (at-args .args .values .now) _ (at-if1 .if1 .left) _ _ (at-put .put .ensures) _ (at-n .n .given .1),
+    )
 
 enum-told : tie.Need-enum-told
 enum-told c = search needs
@@ -50,13 +59,24 @@ same-length : tie.Need-same-length
 same-length c = search needs
 
 returns-2 : tie.Need-returns-2
-returns-2 c = number-fits (digits (c .before .before .before .before .before .before .before .before .before .before .before .args .radix) 0 (drop (c .before .before .before .before .before .before .before .before .before .before .before .args .prefix) (c .before .before .before .before .before .before .before .before .before .before .before .args .source .now))) _ _ (c .before .before .before .before .before .before .before .before .if1 .left) _ _ (c .before .before .before .before .before .before .put .ensures) _ (c .before .before .n .given .1) _ (c .head .ensures)
+returns-2 c =
+    let at-n = c .before .before in
+    let at-put = at-n .before .before .before .before in
+    let at-if1 = at-put .before .before in
+    let at-args = at-if1 .before .before .before in
+    number-fits (digits (at-args .args .radix) 0 (drop (at-args .args .prefix) (at-args .args .source .now))) _ _ (at-if1 .if1 .left) _ _
+    (at-put .put .ensures) _ (at-n .n .given .1) _ (c .head .ensures)
 
 same-length-2 : tie.Need-same-length-2
 same-length-2 c = search needs
 
 returns-3 : tie.Need-returns-3
-returns-3 c = number-full (digits (c .before .before .before .before .before .before .before .before .before .args .radix) 0 (drop (c .before .before .before .before .before .before .before .before .before .args .prefix) (c .before .before .before .before .before .before .before .before .before .args .source .now))) (c .before .before .before .before .before .before .before .before .before .args .values .now) _ (c .before .before .before .before .before .before .if1 .left) _ _ (c .before .before .before .before .put .ensures) (c .enum-told .given .1)
+returns-3 c =
+    let at-put = c .before .before .before .before in
+    let at-if1 = at-put .before .before in
+    let at-args = at-if1 .before .before .before in
+    number-full (digits (at-args .args .radix) 0 (drop (at-args .args .prefix) (at-args .args .source .now))) (at-args .args .values .now) _
+    (at-if1 .if1 .left) _ _ (at-put .put .ensures) (c .enum-told .given .1)
 
 pub store-spec : {M : Type 1} → statement M
 store-spec =

@@ -1,8 +1,8 @@
 -- `times` meets its contract: what is left to do from limb `i` on, and what is done before it, make the whole.
 use mathlib.Core.Path.{refl}
 use lib.ListN.{length, length-set}
-use Prim.Native.Nat.{_-_, _<_}
-use Rattle.values.specs.Times.{Times, times-first, times-sum, times-next, times-last}
+use Prim.Native.Nat.{_-_}
+use Rattle.values.specs.Times.{Times, times-sum, times-next, times-last}
 use borrow.Author.Needs.{needs}
 use native.Mathlib.Omega.{arith}
 use Rattle.values.proofs.number.times.Statement.{statement}
@@ -36,7 +36,16 @@ wide-requires-3 : tie.Need-wide-requires-3 Inv-loop μ-loop
 wide-requires-3 c κs = search needs
 
 add-sum : tie.Need-add-sum Inv-loop μ-loop
-add-sum c = omega (arith, times-sum _ _ _ _ _ _ (c .before .before .before .before .before .loop .inv) _ _ _ (c .before .before .wide .ensures) (c .before .wide2 .ensures) (c .wide3 .ensures) (c .before .before .before .slice-known2 .given _ .fits) (search needs))
+add-sum c =
+    let at-wide2 = c .before in
+    let at-wide = at-wide2 .before in
+    let at-slice-known2 = at-wide .before in
+    let at-loop = at-slice-known2 .before .before in
+    omega (
+      arith,
+      times-sum _ _ _ _ _ _ (at-loop .loop .inv) _ _ _ (at-wide .wide .ensures) (at-wide2 .wide2 .ensures) (c .wide3 .ensures)
+          (at-slice-known2 .slice-known2 .given _ .fits) (search needs),
+    )
 
 cast-limbs : tie.Need-cast-limbs Inv-loop μ-loop
 cast-limbs c = search needs
@@ -48,7 +57,16 @@ slice-write-limbs : tie.Need-slice-write-limbs Inv-loop μ-loop
 slice-write-limbs c = search needs
 
 cast-carry : tie.Need-cast-carry Inv-loop μ-loop
-cast-carry c = omega (arith, times-sum _ _ _ _ _ _ (c .before .before .before .before .before .loop .inv) _ _ _ (c .before .before .wide .ensures) (c .before .wide2 .ensures) (c .wide3 .ensures) (c .before .before .before .slice-known2 .given _ .fits) (search needs))
+cast-carry c =
+    let at-wide2 = c .before in
+    let at-wide = at-wide2 .before in
+    let at-slice-known2 = at-wide .before in
+    let at-loop = at-slice-known2 .before .before in
+    omega (
+      arith,
+      times-sum _ _ _ _ _ _ (at-loop .loop .inv) _ _ _ (at-wide .wide .ensures) (at-wide2 .wide2 .ensures) (c .wide3 .ensures)
+          (at-slice-known2 .slice-known2 .given _ .fits) (search needs),
+    )
 
 add-i : tie.Need-add-i Inv-loop μ-loop
 add-i c = search needs
@@ -57,7 +75,14 @@ loop-less : tie.Need-loop-less Inv-loop μ-loop
 loop-less c = simp length-set (omega arith)
 
 loop-again : tie.Need-loop-again Inv-loop μ-loop
-loop-again c = times-next _ _ _ _ _ _ (c .before .before .before .before .before .loop .inv) _ _ _ (c .before .before .wide .ensures) (c .before .wide2 .ensures) (c .wide3 .ensures) (c .before .before .before .slice-known2 .given _ .fits) (search needs) (c .before .before .before .before .loop-test .taken)
+loop-again c =
+    let at-wide2 = c .before in
+    let at-wide = at-wide2 .before in
+    let at-slice-known2 = at-wide .before in
+    let at-loop-test = at-slice-known2 .before in
+    let at-loop = at-loop-test .before in
+    times-next _ _ _ _ _ _ (at-loop .loop .inv) _ _ _ (at-wide .wide .ensures) (at-wide2 .wide2 .ensures) (c .wide3 .ensures)
+    (at-slice-known2 .slice-known2 .given _ .fits) (search needs) (at-loop-test .loop-test .taken)
 
 same-length : tie.Need-same-length Inv-loop μ-loop
 same-length c = search needs

@@ -34,10 +34,17 @@ same-length-3 : tie.Need-same-length-3
 same-length-3 c = search needs
 
 returns-2 : tie.Need-returns-2
-returns-2 c = rw (bad-new _ _ (c .before .before .before .before .before .before .before .before .before .before .before .before .if1 .left) (sym (c .before .before .before .before .before .before .before .before .before .before .before .if2 .taken) ∙ c .before .before .before .before .before .before .before .before .before .before .before .before .before .before .before .before .before .before .pre .2)) (c .before .before .before .before .before .before .step .ensures)
+returns-2 c =
+    let at-step = c .before .before .before .before .before .before in
+    let at-if2 = at-step .before .before .before .before .before in
+    let at-if1 = at-if2 .before in
+    let at-pre = at-if1 .before .before .before .before .before .before in
+    rw (bad-new _ _ (at-if1 .if1 .left) (sym (at-if2 .if2 .taken) ∙ at-pre .pre .2)) (at-step .step .ensures)
 
 returns-3 : tie.Need-returns-3
-returns-3 c = rw (bad-fine _ _ (sym (c .if2 .left) ∙ c .before .before .before .before .before .before .before .pre .2)) (decodes-none _ _ _ _ _ _ _)
+returns-3 c =
+    let at-pre = c .before .before .before .before .before .before .before in
+    rw (bad-fine _ _ (sym (c .if2 .left) ∙ at-pre .pre .2)) (decodes-none _ _ _ _ _ _ _)
 
 pub bad-digit-spec : {M : Type 1} → statement M
 bad-digit-spec =

@@ -30,22 +30,47 @@ push-byte-requires : tie.Need-push-byte-requires Inv-loop μ-loop
 push-byte-requires c κs = rw (c .before .before .event .given .1) at (c .before .before .before .before .piece-at .ensures .small)
 
 push-plain-requires-2 : tie.Need-push-plain-requires-2 Inv-loop μ-loop
-push-plain-requires-2 c κs = c .before .before .before .before .before .before .before .before .piece-at .ensures .within
+push-plain-requires-2 c κs =
+    let at-piece-at = c .before .before .before .before .before .before .before .before in
+    at-piece-at .piece-at .ensures .within
 
 loop-less : tie.Need-loop-less Inv-loop μ-loop
-loop-less c = omega (arith, c .before .before .before .before .before .before .before .before .before .before .before .piece-at .ensures .on, c .before .before .before .before .before .before .before .before .before .before .before .piece-at .ensures .within, c .before .before .push-plain2 .ensures 0 .on, c .before .before .push-plain2 .ensures 0 .within)
+loop-less c =
+    let at-push-plain2 = c .before .before in
+    let at-piece-at = at-push-plain2 .before .before .before .before .before .before .before .before .before in
+    omega (
+      arith,
+      at-piece-at .piece-at .ensures .on,
+      at-piece-at .piece-at .ensures .within,
+      at-push-plain2 .push-plain2 .ensures 0 .on,
+      at-push-plain2 .push-plain2 .ensures 0 .within,
+    )
 
 loop-again : tie.Need-loop-again Inv-loop μ-loop
-loop-again c = stretch-then _ _ _ _ _ _ _ _ _ _ _ _ (stretch-byte _ _ _ _ _ _ _ _ _ (c .before .before .before .before .before .before .before .before .before .before .before .before .before .loop .inv) _ _ _ (c .before .before .before .before .before .before .before .before .before .before .before .piece-at .ensures) (c .before .before .before .before .before .before .before .before .before .event .given .1) _ _ (c .before .before .before .before .before .before .push-byte .ensures) (c .before .before .before .before .before .values2 .given)) (c .before .before .push-plain2 .ensures _)
+loop-again c =
+    let at-push-plain2 = c .before .before in
+    let at-values2 = at-push-plain2 .before .before .before in
+    let at-push-byte = at-values2 .before in
+    let at-event = at-push-byte .before .before .before in
+    let at-piece-at = at-event .before .before in
+    let at-loop = at-piece-at .before .before in
+    stretch-then _ _ _ _ _ _ _ _ _ _ _ _ (stretch-byte _ _ _ _ _ _ _ _ _ (at-loop .loop .inv) _ _ _ (at-piece-at .piece-at .ensures)
+    (at-event .event .given .1) _ _ (at-push-byte .push-byte .ensures) (at-values2 .values2 .given)) (at-push-plain2 .push-plain2 .ensures _)
 
 enum-told : tie.Need-enum-told Inv-loop μ-loop
 enum-told c = search needs
 
 same-length : tie.Need-same-length Inv-loop μ-loop
-same-length c = c .before .before .before .before .loop .inv .long ∙ c .before .before .before .before .before .before .before .push-plain .ensures 0 .long
+same-length c =
+    let at-loop = c .before .before .before .before in
+    let at-push-plain = at-loop .before .before .before in
+    at-loop .loop .inv .long ∙ at-push-plain .push-plain .ensures 0 .long
 
 returns : tie.Need-returns Inv-loop μ-loop
-returns c = stretch-then _ _ _ _ _ _ _ _ _ _ _ _ (c .before .before .before .before .before .before .before .push-plain .ensures _) (c .before .before .before .before .loop .inv)
+returns c =
+    let at-loop = c .before .before .before .before in
+    let at-push-plain = at-loop .before .before .before in
+    stretch-then _ _ _ _ _ _ _ _ _ _ _ _ (at-push-plain .push-plain .ensures _) (at-loop .loop .inv)
 
 same-length-2 : tie.Need-same-length-2 Inv-loop μ-loop
 same-length-2 c = c .before .loop .inv .long ∙ c .before .before .before .before .push-plain .ensures 0 .long

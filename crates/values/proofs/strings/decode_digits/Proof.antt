@@ -24,10 +24,19 @@ pair-requires : tie.Need-pair-requires Inv-loop μ-loop
 pair-requires c κs = search needs
 
 loop-less : tie.Need-loop-less Inv-loop μ-loop
-loop-less c = omega (arith, c .before .before .before .before .before .before .before .pair .ensures .on, c .before .before .before .before .before .before .before .pair .ensures .within)
+loop-less c =
+    let at-pair = c .before .before .before .before .before .before .before in
+    omega (arith, at-pair .pair .ensures .on, at-pair .pair .ensures .within)
 
 loop-again : tie.Need-loop-again Inv-loop μ-loop
-loop-again c = walk-on _ _ _ _ _ _ _ _ _ _ _ _ (c .before .before .before .before .before .before .before .before .before .before .before .before .loop .inv) _ _ _ _ _ (c .before .before .before .before .before .before .before .pair .ensures .is) (c .before .before .before .before .before .before .before .pair .ensures .decodes) (c .before .before .before .before .before .before .nodes .given) (c .before .before .before .before .values .given) (c .before .before .reports .given)
+loop-again c =
+    let at-reports = c .before .before in
+    let at-values = at-reports .before .before in
+    let at-nodes = at-values .before .before in
+    let at-pair = at-nodes .before in
+    let at-loop = at-pair .before .before .before .before .before in
+    walk-on _ _ _ _ _ _ _ _ _ _ _ _ (at-loop .loop .inv) _ _ _ _ _ (at-pair .pair .ensures .is) (at-pair .pair .ensures .decodes)
+    (at-nodes .nodes .given) (at-values .values .given) (at-reports .reports .given)
 
 same-length : tie.Need-same-length Inv-loop μ-loop
 same-length c = c .before .loop .inv .nodes

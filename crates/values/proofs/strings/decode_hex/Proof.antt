@@ -19,13 +19,33 @@ token-end-requires : tie.Need-token-end-requires
 token-end-requires c κs = search needs
 
 add-decode-digits : tie.Need-add-decode-digits
-add-decode-digits c = omega (arith, inside-fits _ _ _ 4 _ _ _ (c .before .before .before .before .before .before .spelling .ensures) (c .before .before .before .before .before .inside .ensures) (c .before .before .before .before .token-start .ensures) (lit< tt))
+add-decode-digits c =
+    let at-token-start = c .before .before .before .before in
+    let at-inside = at-token-start .before in
+    let at-spelling = at-inside .before in
+    omega (
+      arith,
+      inside-fits _ _ _ 4 _ _ _ (at-spelling .spelling .ensures .0) (at-inside .inside .ensures) (at-token-start .token-start .ensures)
+          (lit< tt),
+    )
 
 cast-decode-digits : tie.Need-cast-decode-digits
-cast-decode-digits c = omega (arith, inside-fits _ _ _ 4 _ _ _ (c .before .before .before .before .before .before .spelling .ensures) (c .before .before .before .before .before .inside .ensures) (c .before .before .before .before .token-start .ensures) (lit< tt))
+cast-decode-digits c =
+    let at-token-start = c .before .before .before .before in
+    let at-inside = at-token-start .before in
+    let at-spelling = at-inside .before in
+    omega (
+      arith,
+      inside-fits _ _ _ 4 _ _ _ (at-spelling .spelling .ensures .0) (at-inside .inside .ensures) (at-token-start .token-start .ensures)
+          (lit< tt),
+    )
 
 decode-digits-requires : tie.Need-decode-digits-requires
-decode-digits-requires c κs = inside-fits _ _ _ 4 _ _ _ (c .before .before .before .before .before .before .spelling .ensures) (c .before .before .before .before .before .inside .ensures) (c .before .before .before .before .token-start .ensures) (lit< tt)
+decode-digits-requires c κs =
+    let at-token-start = c .before .before .before .before in
+    let at-inside = at-token-start .before in
+    let at-spelling = at-inside .before in
+    inside-fits _ _ _ 4 _ _ _ (at-spelling .spelling .ensures .0) (at-inside .inside .ensures) (at-token-start .token-start .ensures) (lit< tt)
 
 same-length : tie.Need-same-length
 same-length c = search needs
@@ -37,7 +57,14 @@ same-length-3 : tie.Need-same-length-3
 same-length-3 c = search needs
 
 returns : tie.Need-returns
-returns c = rw (← (hex-same _ _ _ _ _ _ _ (c .before .before .before .before .before .before .before .before .before .before .before .before .before .spelling .ensures) (c .before .before .before .before .before .before .before .before .before .before .before .before .inside .ensures) (c .before .before .before .before .before .before .before .before .before .before .before .token-start .ensures) (c .before .before .before .before .before .before .before .before .before .before .token-end .ensures))) (c .before .before .before .before .before .before .decode-digits .ensures)
+returns c =
+    let at-decode-digits = c .before .before .before .before .before .before in
+    let at-token-end = at-decode-digits .before .before .before .before in
+    let at-token-start = at-token-end .before in
+    let at-inside = at-token-start .before in
+    let at-spelling = at-inside .before in
+    rw (← (hex-same _ _ _ _ _ _ _ (at-spelling .spelling .ensures .0) (at-inside .inside .ensures) (at-token-start .token-start .ensures)
+    (at-token-end .token-end .ensures))) (at-decode-digits .decode-digits .ensures)
 
 pub decode-hex-spec : {M : Type 1} → statement M
 decode-hex-spec =

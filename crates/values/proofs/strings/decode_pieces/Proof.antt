@@ -30,13 +30,35 @@ step-requires : tie.Need-step-requires Inv-loop μ-loop
 step-requires c κs = c .before .before .before .piece-at .ensures .small
 
 decode-bytes-requires-2 : tie.Need-decode-bytes-requires-2 Inv-loop μ-loop
-decode-bytes-requires-2 c κs = (c .before .before .before .before .before .before .before .before .before .before .before .before .before .before .before .before .before .before .before .before .before .before .before .before .before .before .pre, c .before .before .before .before .before .before .before .before .before .before .before .before .piece-at .ensures .within)
+decode-bytes-requires-2 c κs =
+    let at-piece-at = c .before .before .before .before .before .before .before .before .before .before .before .before in
+    let at-pre = at-piece-at .before .before .before .before .before .before .before .before .before .before .before .before .before .before in
+    (at-pre .pre, at-piece-at .piece-at .ensures .within)
 
 loop-less : tie.Need-loop-less Inv-loop μ-loop
-loop-less c = omega (arith, c .before .before .before .before .before .before .before .before .before .before .before .before .before .before .before .piece-at .ensures .on, c .before .before .before .before .before .before .before .before .before .before .before .before .before .before .before .piece-at .ensures .within, c .before .before .decode-bytes2 .ensures .on, c .before .before .decode-bytes2 .ensures .within)
+loop-less c =
+    let at-decode-bytes2 = c .before .before in
+    let at-piece-at = at-decode-bytes2 .before .before .before .before .before .before .before .before .before .before .before .before .before in
+    omega (
+      arith,
+      at-piece-at .piece-at .ensures .on,
+      at-piece-at .piece-at .ensures .within,
+      at-decode-bytes2 .decode-bytes2 .ensures .on,
+      at-decode-bytes2 .decode-bytes2 .ensures .within,
+    )
 
 loop-again : tie.Need-loop-again Inv-loop μ-loop
-loop-again c = walk-stretch _ _ _ _ _ _ _ _ _ _ _ _ _ _ _ (c .before .before .decode-bytes2 .ensures) _ _ _ _ (walk-on _ _ _ _ _ _ _ _ _ _ _ _ (c .before .before .before .before .before .before .before .before .before .before .before .before .before .before .before .before .before .loop .inv) _ _ _ _ _ (c .before .before .before .before .before .before .before .before .before .before .before .before .before .before .before .piece-at .ensures .is) (c .before .before .before .before .before .before .before .before .before .before .before .step .ensures) (c .before .before .before .before .before .before .before .before .before .before .nodes .given) (c .before .before .before .before .before .before .before .before .values2 .given) (c .before .before .before .before .before .before .reports .given))
+loop-again c =
+    let at-decode-bytes2 = c .before .before in
+    let at-reports = at-decode-bytes2 .before .before .before .before in
+    let at-values2 = at-reports .before .before in
+    let at-nodes = at-values2 .before .before in
+    let at-step = at-nodes .before in
+    let at-piece-at = at-step .before .before .before .before in
+    let at-loop = at-piece-at .before .before in
+    walk-stretch _ _ _ _ _ _ _ _ _ _ _ _ _ _ _ (at-decode-bytes2 .decode-bytes2 .ensures) _ _ _ _
+    (walk-on _ _ _ _ _ _ _ _ _ _ _ _ (at-loop .loop .inv) _ _ _ _ _ (at-piece-at .piece-at .ensures .is) (at-step .step .ensures)
+    (at-nodes .nodes .given) (at-values2 .values2 .given) (at-reports .reports .given))
 
 same-length : tie.Need-same-length Inv-loop μ-loop
 same-length c = c .before .loop .inv .nodes

@@ -16,10 +16,22 @@ token-start-requires : tie.Need-token-start-requires
 token-start-requires c κs = search needs
 
 add-decode-pieces : tie.Need-add-decode-pieces
-add-decode-pieces c = omega (arith, inside-fits _ _ _ 1 _ _ _ (c .before .before .before .before .before .spelling .ensures) (c .before .before .before .before .inside .ensures) (c .before .before .before .token-start .ensures) (lit< tt))
+add-decode-pieces c =
+    let at-token-start = c .before .before .before in
+    let at-inside = at-token-start .before in
+    let at-spelling = at-inside .before in
+    omega (
+      arith,
+      inside-fits _ _ _ 1 _ _ _ (at-spelling .spelling .ensures .0) (at-inside .inside .ensures) (at-token-start .token-start .ensures)
+          (lit< tt),
+    )
 
 decode-pieces-requires : tie.Need-decode-pieces-requires
-decode-pieces-requires c κs = inside-fits _ _ _ 1 _ _ _ (c .before .before .before .before .before .spelling .ensures) (c .before .before .before .before .inside .ensures) (c .before .before .before .token-start .ensures) (lit< tt)
+decode-pieces-requires c κs =
+    let at-token-start = c .before .before .before in
+    let at-inside = at-token-start .before in
+    let at-spelling = at-inside .before in
+    inside-fits _ _ _ 1 _ _ _ (at-spelling .spelling .ensures .0) (at-inside .inside .ensures) (at-token-start .token-start .ensures) (lit< tt)
 
 same-length : tie.Need-same-length
 same-length c = search needs
@@ -31,7 +43,13 @@ same-length-3 : tie.Need-same-length-3
 same-length-3 c = search needs
 
 returns : tie.Need-returns
-returns c = rw (← (string-same _ _ _ _ _ _ (c .before .before .before .before .before .before .before .before .before .before .before .before .spelling .ensures) (c .before .before .before .before .before .before .before .before .before .before .before .inside .ensures) (c .before .before .before .before .before .before .before .before .before .before .token-start .ensures))) (c .before .before .before .before .before .before .decode-pieces .ensures)
+returns c =
+    let at-decode-pieces = c .before .before .before .before .before .before in
+    let at-token-start = at-decode-pieces .before .before .before .before in
+    let at-inside = at-token-start .before in
+    let at-spelling = at-inside .before in
+    rw (← (string-same _ _ _ _ _ _ (at-spelling .spelling .ensures .0) (at-inside .inside .ensures) (at-token-start .token-start .ensures)))
+    (at-decode-pieces .decode-pieces .ensures)
 
 pub decode-string-spec : {M : Type 1} → statement M
 decode-string-spec =

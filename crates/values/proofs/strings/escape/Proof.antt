@@ -27,11 +27,41 @@ returns-5 c = (rw (ne-eqb _ 110 (c .before .before .before .before .if1 .left), 
 
 returns-6 : tie.Need-returns-6
 unfolding escape
-returns-6 c = (rw (ne-eqb _ 110 (c .before .before .before .before .before .if1 .left), ne-eqb _ 114 (c .before .before .before .before .if2 .left), ne-eqb _ 116 (c .before .before .before .if3 .left), ne-eqb _ 48 (c .before .before .if4 .left), ne-eqb _ 92 (c .before .if5 .left), eq-eqb _ 34 (c .if6 .taken)), lit< tt)
+returns-6 c =
+    let at-if5 = c .before in
+    let at-if4 = at-if5 .before in
+    let at-if3 = at-if4 .before in
+    let at-if2 = at-if3 .before in
+    let at-if1 = at-if2 .before in (
+      rw (
+        ne-eqb _ 110 (at-if1 .if1 .left),
+        ne-eqb _ 114 (at-if2 .if2 .left),
+        ne-eqb _ 116 (at-if3 .if3 .left),
+        ne-eqb _ 48 (at-if4 .if4 .left),
+        ne-eqb _ 92 (at-if5 .if5 .left),
+        eq-eqb _ 34 (c .if6 .taken),
+      ),
+      lit< tt,
+    )
 
 returns-7 : tie.Need-returns-7
 unfolding escape
-returns-7 c = (rw (ne-eqb _ 110 (c .before .before .before .before .before .if1 .left), ne-eqb _ 114 (c .before .before .before .before .if2 .left), ne-eqb _ 116 (c .before .before .before .if3 .left), ne-eqb _ 48 (c .before .before .if4 .left), ne-eqb _ 92 (c .before .if5 .left), ne-eqb _ 34 (c .if6 .left)), tt)
+returns-7 c =
+    let at-if5 = c .before in
+    let at-if4 = at-if5 .before in
+    let at-if3 = at-if4 .before in
+    let at-if2 = at-if3 .before in
+    let at-if1 = at-if2 .before in (
+      rw (
+        ne-eqb _ 110 (at-if1 .if1 .left),
+        ne-eqb _ 114 (at-if2 .if2 .left),
+        ne-eqb _ 116 (at-if3 .if3 .left),
+        ne-eqb _ 48 (at-if4 .if4 .left),
+        ne-eqb _ 92 (at-if5 .if5 .left),
+        ne-eqb _ 34 (c .if6 .left),
+      ),
+      tt,
+    )
 
 pub escape-spec : {M : Type 1} → statement M
 escape-spec =

@@ -1,6 +1,6 @@
 -- `escaped` meets its contract, by case.
-use mathlib.Core.Path.{refl, sym}
-use Rattle.values.specs.Pieces.{told, SlashX, cut-end, cut-escape, cut-unknown}
+use mathlib.Core.Path.{refl}
+use Rattle.values.specs.Pieces.{told, cut-end, cut-escape, cut-unknown}
 use borrow.Author.Needs.{needs}
 use Rattle.values.proofs.strings.escaped.Statement.{statement}
 use Rattle.values.proofs.strings.escaped.Tie as tie
@@ -24,7 +24,10 @@ enum-told : tie.Need-enum-told
 enum-told c = search needs
 
 hex-escape-requires : tie.Need-hex-escape-requires
-hex-escape-requires c κs = (c .before .before .before .before .before .before .before .pre .0, record { middle = c .before .before .before .before .before .before .before .args .j; at = c .before .before .before .before .before .before .before .pre .1 .at; then = rw (c .if2 .taken) at (c .before .before .before .before .char-at .ensures) })
+hex-escape-requires c κs =
+    let at-char-at = c .before .before .before .before in
+    let at-pre = at-char-at .before .before .before in
+    (at-pre .pre .0, record { middle = at-pre .args .j; at = at-pre .pre .1 .at; then = rw (c .if2 .taken) at (at-char-at .char-at .ensures) })
 
 returns-2 : tie.Need-returns-2
 returns-2 c = search needs
@@ -33,10 +36,23 @@ reported-requires-2 : tie.Need-reported-requires-2
 reported-requires-2 c κs = search needs
 
 returns-3 : tie.Need-returns-3
-returns-3 c = cut-escape _ _ _ _ _ (c .before .before .before .before .before .before .before .pre .1 .at) refl _ _ (c .before .before .before .before .char-at .ensures) _ (rw (c .before .byte .given .1) at (c .before .before .before .escape .ensures .0)) (rw (c .before .byte .given .1) at (c .before .before .before .escape .ensures .1))
+returns-3 c =
+    let at-byte = c .before in
+    let at-escape = at-byte .before .before in
+    let at-char-at = at-escape .before in
+    let at-pre = at-char-at .before .before .before in
+    cut-escape _ _ _ _ _ (at-pre .pre .1 .at) refl _ _ (at-char-at .char-at .ensures) _
+    (rw (at-byte .byte .given .1) at (at-escape .escape .ensures .0)) (rw (at-byte .byte .given .1) at (at-escape .escape .ensures .1))
 
 returns-4 : tie.Need-returns-4
-returns-4 c = told _ _ _ (c .reported2 .result .event) _ _ _ (cut-unknown _ _ _ _ _ (c .before .before .before .before .before .before .before .before .pre .1 .at) refl _ _ (c .before .before .before .before .before .char-at .ensures) (rw (c .before .before .enum-told .given .1) at (c .before .before .before .before .escape .ensures .0)) (c .before .if2 .left)) (c .reported2 .ensures)
+returns-4 c =
+    let at-if2 = c .before in
+    let at-enum-told = at-if2 .before in
+    let at-escape = at-enum-told .before .before in
+    let at-char-at = at-escape .before in
+    let at-pre = at-char-at .before .before .before in
+    told _ _ _ (c .reported2 .result .event) _ _ _ (cut-unknown _ _ _ _ _ (at-pre .pre .1 .at) refl _ _ (at-char-at .char-at .ensures)
+    (rw (at-enum-told .enum-told .given .1) at (at-escape .escape .ensures .0)) (at-if2 .if2 .left)) (c .reported2 .ensures)
 
 pub escaped-spec : {M : Type 1} → statement M
 escaped-spec =

@@ -19,7 +19,12 @@ reported-requires-2 : tie.Need-reported-requires-2
 reported-requires-2 c κs = search needs
 
 returns-2 : tie.Need-returns-2
-returns-2 c = told _ _ _ (c .reported2 .result .event) _ _ _ (cut-x-one _ _ _ _ _ (c .before .before .before .before .before .pre .1 .at) refl _ _ (c .before .before .before .before .before .pre .1 .then) no-escape refl _ _ (c .before .before .char-at .ensures) (c .before .if2 .taken)) (c .reported2 .ensures)
+returns-2 c =
+    let at-if2 = c .before in
+    let at-char-at = at-if2 .before in
+    let at-pre = at-char-at .before .before .before in
+    told _ _ _ (c .reported2 .result .event) _ _ _ (cut-x-one _ _ _ _ _ (at-pre .pre .1 .at) refl _ _ (at-pre .pre .1 .then) no-escape refl _ _
+    (at-char-at .char-at .ensures) (at-if2 .if2 .taken)) (c .reported2 .ensures)
 
 char-at-requires-2 : tie.Need-char-at-requires-2
 char-at-requires-2 c κs = search needs
@@ -37,10 +42,18 @@ enum-known-l : tie.Need-enum-known-l
 enum-known-l c = search needs
 
 mul-t18 : tie.Need-mul-t18
-mul-t18 c = omega (arith, rw (c .before .before .before .before .h .given .1) at (c .before .before .before .before .before .before .before .nibble .ensures .1))
+mul-t18 c =
+    let at-h = c .before .before .before .before in
+    let at-nibble = at-h .before .before .before in
+    omega (arith, rw (at-h .h .given .1) at (at-nibble .nibble .ensures .1))
 
 add-t19 : tie.Need-add-t19
-add-t19 c = omega (arith, rw (c .before .before .before .before .h .given .1) at (c .before .before .before .before .before .before .before .nibble .ensures .1), rw (c .before .l .given .1) at (c .before .before .before .before .before .before .nibble2 .ensures .1))
+add-t19 c =
+    let at-l = c .before in
+    let at-h = at-l .before .before .before in
+    let at-nibble2 = at-h .before .before in
+    let at-nibble = at-nibble2 .before in
+    omega (arith, rw (at-h .h .given .1) at (at-nibble .nibble .ensures .1), rw (at-l .l .given .1) at (at-nibble2 .nibble2 .ensures .1))
 
 enum-told : tie.Need-enum-told
 enum-told c = search needs
@@ -55,13 +68,42 @@ reported-requires-4 : tie.Need-reported-requires-4
 reported-requires-4 c κs = search needs
 
 returns-3 : tie.Need-returns-3
-returns-3 c = cut-digits _ _ _ _ _ (c .before .before .before .before .before .before .before .before .before .before .before .before .before .pre .1 .at) refl _ _ (c .before .before .before .before .before .before .before .before .before .before .before .before .before .pre .1 .then) no-escape refl _ _ (c .before .before .before .before .before .before .before .before .before .before .char-at .ensures) _ _ (c .before .before .before .before .before .before .before .before .char-at2 .ensures) _ (rw (c .before .before .before .before .h .given .1) at (c .before .before .before .before .before .before .before .nibble .ensures .0)) _ (rw (c .before .l .given .1) at (c .before .before .before .before .before .before .nibble2 .ensures .0)) (rw (c .before .before .before .before .h .given .1) at (c .before .before .before .before .before .before .before .nibble .ensures .1)) (rw (c .before .l .given .1) at (c .before .before .before .before .before .before .nibble2 .ensures .1))
+returns-3 c =
+    let at-l = c .before in
+    let at-h = at-l .before .before .before in
+    let at-nibble2 = at-h .before .before in
+    let at-nibble = at-nibble2 .before in
+    let at-char-at2 = at-nibble .before in
+    let at-char-at = at-char-at2 .before .before in
+    let at-pre = at-char-at .before .before .before in
+    cut-digits _ _ _ _ _ (at-pre .pre .1 .at) refl _ _ (at-pre .pre .1 .then) no-escape refl _ _ (at-char-at .char-at .ensures) _ _
+    (at-char-at2 .char-at2 .ensures) _ (rw (at-h .h .given .1) at (at-nibble .nibble .ensures .0)) _
+    (rw (at-l .l .given .1) at (at-nibble2 .nibble2 .ensures .0)) (rw (at-h .h .given .1) at (at-nibble .nibble .ensures .1))
+    (rw (at-l .l .given .1) at (at-nibble2 .nibble2 .ensures .1))
 
 returns-4 : tie.Need-returns-4
-returns-4 c = told _ _ _ (c .reported3 .result .event) _ _ _ (cut-one-digit _ _ _ _ _ (c .before .before .before .before .before .before .before .before .before .before .before .before .before .pre .1 .at) refl _ _ (c .before .before .before .before .before .before .before .before .before .before .before .before .before .pre .1 .then) no-escape refl _ _ (c .before .before .before .before .before .before .before .before .before .before .char-at .ensures) _ _ (c .before .before .before .before .before .before .before .before .char-at2 .ensures) _ (rw (c .before .before .before .before .h .given .1) at (c .before .before .before .before .before .before .before .nibble .ensures .0)) (rw (c .before .enum-told .given .1) at (c .before .before .before .before .before .before .nibble2 .ensures .0))) (c .reported3 .ensures)
+returns-4 c =
+    let at-enum-told = c .before in
+    let at-h = at-enum-told .before .before .before in
+    let at-nibble2 = at-h .before .before in
+    let at-nibble = at-nibble2 .before in
+    let at-char-at2 = at-nibble .before in
+    let at-char-at = at-char-at2 .before .before in
+    let at-pre = at-char-at .before .before .before in
+    told _ _ _ (c .reported3 .result .event) _ _ _ (cut-one-digit _ _ _ _ _ (at-pre .pre .1 .at) refl _ _ (at-pre .pre .1 .then) no-escape refl _ _
+    (at-char-at .char-at .ensures) _ _ (at-char-at2 .char-at2 .ensures) _ (rw (at-h .h .given .1) at (at-nibble .nibble .ensures .0))
+    (rw (at-enum-told .enum-told .given .1) at (at-nibble2 .nibble2 .ensures .0))) (c .reported3 .ensures)
 
 returns-5 : tie.Need-returns-5
-returns-5 c = told _ _ _ (c .reported4 .result .event) _ _ _ (cut-no-digit _ _ _ _ _ (c .before .before .before .before .before .before .before .before .before .before .pre .1 .at) refl _ _ (c .before .before .before .before .before .before .before .before .before .before .pre .1 .then) no-escape refl _ _ (c .before .before .before .before .before .before .before .char-at .ensures) _ _ (c .before .before .before .before .before .char-at2 .ensures) (rw (c .before .enum-told2 .given .1) at (c .before .before .before .before .nibble .ensures .0))) (c .reported4 .ensures)
+returns-5 c =
+    let at-enum-told2 = c .before in
+    let at-nibble = at-enum-told2 .before .before .before in
+    let at-char-at2 = at-nibble .before in
+    let at-char-at = at-char-at2 .before .before in
+    let at-pre = at-char-at .before .before .before in
+    told _ _ _ (c .reported4 .result .event) _ _ _ (cut-no-digit _ _ _ _ _ (at-pre .pre .1 .at) refl _ _ (at-pre .pre .1 .then) no-escape refl _ _
+    (at-char-at .char-at .ensures) _ _ (at-char-at2 .char-at2 .ensures)
+    (rw (at-enum-told2 .enum-told2 .given .1) at (at-nibble .nibble .ensures .0))) (c .reported4 .ensures)
 
 pub hex-escape-spec : {M : Type 1} → statement M
 hex-escape-spec =

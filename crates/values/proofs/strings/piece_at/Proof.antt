@@ -1,5 +1,5 @@
 -- `piece_at` meets its contract, by case.
-use Rattle.values.specs.Pieces.{told, Slash, cut-run, cut-plain}
+use Rattle.values.specs.Pieces.{told, cut-run, cut-plain}
 use Rattle.values.specs.Plain.{plain-cut}
 use native.Mathlib.Omega.{arith}
 use borrow.Author.Needs.{needs}
@@ -34,7 +34,10 @@ returns-2 : tie.Need-returns-2
 returns-2 c = told _ _ _ (c .reported .result .event) _ _ _ (cut-run _ _ _ _ _ (c .before .before .before .char-at .ensures) (c .before .before .if2 .taken) _ (c .before .run-end .ensures)) (c .reported .ensures)
 
 escaped-requires : tie.Need-escaped-requires
-escaped-requires c κs = (c .before .before .before .before .before .before .before .pre .0, record { at = rw (c .if3 .taken) at (c .before .before .char-at .ensures) })
+escaped-requires c κs =
+    let at-char-at = c .before .before in
+    let at-pre = at-char-at .before .before .before .before .before in
+    (at-pre .pre .0, record { at = rw (c .if3 .taken) at (at-char-at .char-at .ensures) })
 
 returns-3 : tie.Need-returns-3
 returns-3 c = search needs

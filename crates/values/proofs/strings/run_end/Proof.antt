@@ -1,7 +1,7 @@
 -- `run_end` meets its contract: the run from byte `i` on ends where the one from byte `j` on does.
 use Prim.Native.Nat.{_-_}
 use lib.ListN.{length}
-use Rattle.values.specs.Pieces.{Runs, runs-first, run-over, run-stops, runs-next}
+use Rattle.values.specs.Pieces.{Runs, run-over, run-stops, runs-next}
 use borrow.Author.Needs.{needs}
 use Rattle.values.proofs.strings.run_end.Statement.{statement}
 use Rattle.values.proofs.strings.run_end.Tie as tie

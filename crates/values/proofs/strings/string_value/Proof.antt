@@ -21,19 +21,29 @@ head-requires : tie.Need-head-requires
 head-requires c κs = search needs
 
 mul-values : tie.Need-mul-values
-mul-values c = omega (arith, c .before .before .before .before .before .before .before .before .before .before .before .before .before .before .good .1 .1 .1 .1 .1 .0 .1, c .before .before .before .before .if2 .left)
+mul-values c =
+    let at-if2 = c .before .before .before .before in
+    let at-good = at-if2 .before .before .before .before .before .before .before .before .before .before in
+    omega (arith, at-good .good .1 .1 .1 .1 .1 .0 .1, at-if2 .if2 .left)
 
 slice-write-values : tie.Need-slice-write-values
 slice-write-values c = search needs
 
 add-past : tie.Need-add-past
-add-past c = omega (arith, c .before .before .before .before .before .before .before .before .before .before .before .before .before .before .good .1 .1 .1 .1 .1 .0 .1, c .before .before .before .before .if2 .left)
+add-past c =
+    let at-if2 = c .before .before .before .before in
+    let at-good = at-if2 .before .before .before .before .before .before .before .before .before .before in
+    omega (arith, at-good .good .1 .1 .1 .1 .1 .0 .1, at-if2 .if2 .left)
 
 words-of-requires : tie.Need-words-of-requires
 words-of-requires c κs = search needs
 
 add-past-2 : tie.Need-add-past-2
-add-past-2 c = omega (arith, c .before .before .before .before .before .before .before .before .before .before .before .before .before .before .before .good .1 .1 .1 .1 .1 .0 .1, c .before .before .before .before .before .if2 .left, c .words-of .ensures, c .before .before .known-told .given)
+add-past-2 c =
+    let at-known-told = c .before .before in
+    let at-if2 = at-known-told .before .before .before in
+    let at-good = at-if2 .before .before .before .before .before .before .before .before .before .before in
+    omega (arith, at-good .good .1 .1 .1 .1 .1 .0 .1, at-if2 .if2 .left, c .words-of .ensures, at-known-told .known-told .given)
 
 past-requires : tie.Need-past-requires
 past-requires c κs = search needs
@@ -45,7 +55,14 @@ same-length : tie.Need-same-length
 same-length c = search needs
 
 returns-3 : tie.Need-returns-3
-returns-3 c = string-fits _ _ _ _ _ _ _ _ (c .before .before .before .before .before .before .before .before .if1 .left) _ (c .before .before .before .before .count .given .1) (c .before .before .before .before .before .before .if2 .left) _ (c .before .before .head .ensures) _ (c .before .words-of .ensures) _ (c .past .ensures)
+returns-3 c =
+    let at-words-of = c .before in
+    let at-head = at-words-of .before in
+    let at-count = at-head .before .before in
+    let at-if2 = at-count .before .before in
+    let at-if1 = at-if2 .before .before in
+    string-fits _ _ _ _ _ _ _ _ (at-if1 .if1 .left) _ (at-count .count .given .1) (at-if2 .if2 .left) _ (at-head .head .ensures) _
+    (at-words-of .words-of .ensures) _ (c .past .ensures)
 
 returns-4 : tie.Need-returns-4
 returns-4 c = string-full _ _ _ _ _ _ _ _ (c .before .before .before .before .if1 .left) _ (c .before .before .before .refuse .ensures) (c .enum-told .given .1)
