@@ -9,20 +9,20 @@ use expr::struct_body;
 use looking::Count;
 use looking::Spanned;
 use looking::View;
-use looking::any::child;
-use looking::any::child_count;
-use looking::any::ident;
-use looking::any::kind;
-use looking::any::span;
+use node_view::child_at;
+use node_view::child_count_at;
+use node_view::ident_at;
+use node_view::kind_at;
+use node_view::span_at;
 
 // The accessor with this number, of a node.
 pub(crate) fn view(which: u32, nodes: &[u32], n: u32, i: u32) -> View
     ensures { λ r. ⌜ answer r ≡ pick none (numbers i (now (nodes .entry)) n) which ⌝ }
 {
     match which {
-        number::KIND => kind(nodes, n),
-        number::CHILD => child(nodes, n, i),
-        number::IDENT => ident(nodes, n),
+        number::KIND => kind_at(nodes, n),
+        number::CHILD => child_at(nodes, n, i),
+        number::IDENT => ident_at(nodes, n),
         number::EXPR => expr(nodes, n),
         number::STRUCT_BODY => struct_body(nodes, n),
         _ => View::None,
@@ -34,7 +34,7 @@ pub(crate) fn span_view(which: u32, nodes: &[u32], n: u32) -> Spanned
     ensures { λ r. ⌜ spanned r ≡ pick none (spans (now (nodes .entry)) n) which ⌝ }
 {
     match which {
-        number::SPAN => span(nodes, n),
+        number::SPAN => span_at(nodes, n),
         _ => Spanned::None,
     }
 }
@@ -44,7 +44,7 @@ pub(crate) fn count_view(which: u32, nodes: &[u32], n: u32) -> Count
     ensures { λ r. ⌜ counted r ≡ pick none (counts (now (nodes .entry)) n) which ⌝ }
 {
     match which {
-        number::CHILD_COUNT => child_count(nodes, n),
+        number::CHILD_COUNT => child_count_at(nodes, n),
         _ => Count::None,
     }
 }

@@ -26,7 +26,7 @@ pub data Seen (A : Type 0) : Type 0 where
   none : Seen A
   refused : ℕ → ℕ → Seen A
 
--- 01's number and values for each case of an answer: "8, only from views (the number of the node looked at)".
+-- 01's number and values for each case of an answer: "8, only from views: .. (the number of the node looked at)".
 abbrev pub answer : View → Seen ℕ
 answer (Is n) = is n
 answer None = none
@@ -117,7 +117,7 @@ noStop = 50
 abbrev pub turns : List ℕ → ℕ
 turns ns = count ns + 1
 
--- ---- views by kind: a view is of nodes of the kinds from one to another; "a node of another kind than the view's is none"
+-- ---- views by kind: a view is of nodes of the kinds from one to another; "a node of another kind than the view's .. is answered with none"
 
 unfoldable pub of : ℕ → ℕ → List ℕ → ℕ → Seen Fields
 of from to ns n = andThen (look ns n) (λ node. cond (among from to (node .kind)) (is node) none)

@@ -45,7 +45,7 @@ use Rattle.node_view.proofs.NodeView as T
 use Rattle.node_view.proofs.NodeView.Laws as T′
 
 -- the struct's type, over the signature's lifetimes
-abbrev B : Lfts 1 → RattleType
+abbrev pub B : Lfts 1 → RattleType
 B κs = T.the-row (namedLft 1 0 tt κs)
 
 -- R: the answer's type, and τ in MIR; Fact: what both contracts say of it
@@ -60,20 +60,20 @@ module _ (R : RattleType) (τ : Ty) (Fact : List ℕ → ℕ → R .Denot → Ty
   }
 
   -- the callee's contract, and the caller's
-  abbrev asked : Ended
+  abbrev pub asked : Ended
   asked = record { signature = record { lifetimes = 1; outlives = []; params = SliceRefOf (0 ∷ []) tt (plain (λ κs. u32)) (λ κs. tt) ∷ plain (λ κs. u32) ∷ []; result = plain (λ κs. R) }; kept = (yes, (yes, tt)) }
 
-  abbrev asks : Ended
+  abbrev pub asks : Ended
   asks = record { signature = record { lifetimes = 1; outlives = []; params = plain B ∷ []; result = plain (λ κs. R) }; kept = (yes, tt) }
 
   abbrev stayed : Stays (asks .signature .params) (asks .kept)
   stayed = (stay-none B yes, tt)
 
   module _ {M : Type 1} (𝓤 : URA M) (H : Heap 𝓤) (A : Atoms 𝓤) where
-    abbrev asked-says : Clauses 𝓤 asked
+    abbrev pub asked-says : Clauses 𝓤 asked
     asked-says κs a = record { ghost = Unit {0}; requires = λ g. connectives 𝓤 .⊤ₛ; ensures = λ g r end. fact 𝓤 (Fact (now (a .0)) (a .1 .0) r) }
 
-    abbrev asks-says : Clauses 𝓤 asks
+    abbrev pub asks-says : Clauses 𝓤 asks
     asks-says κs a = record { ghost = Unit {0}; requires = λ g. connectives 𝓤 .⊤ₛ; ensures = λ g r end. fact 𝓤 (Fact (now (a .0 .nodes)) (a .0 .n) r) }
 
     abbrev Callee : Contract 𝓤

@@ -1,4 +1,5 @@
-// A view of a node, which keeps the node words it looks at (`NodeView` of cst/mod.rs). Each function takes it apart and asks crate looking.
+// A view of a node, which keeps the node words it looks at (`NodeView` of cst/mod.rs). Each method takes it apart and asks crate
+// looking; the functions behind them make a view of plain words and ask it.
 ghost use mathlib.Core.Path.{_≡_};
 ghost use Rattle.looking.specs.View.{answer, spans, counts, ident, nameOf};
 ghost use Rattle.words.specs.Node;
@@ -67,15 +68,39 @@ impl<'a> NodeView<'a> {
     }
 }
 
-// The child of a node, for callers that have plain words.
+// The methods, for callers that have plain words.
+pub fn kind_at(nodes: &[u32], n: u32) -> View
+    ensures { λ r. ⌜ answer r ≡ kind (now (nodes .entry)) n ⌝ }
+{
+    NodeView::new(nodes, n).kind()
+}
+
+pub fn span_at(nodes: &[u32], n: u32) -> Spanned
+    ensures { λ r. ⌜ spans r ≡ span (now (nodes .entry)) n ⌝ }
+{
+    NodeView::new(nodes, n).span()
+}
+
 pub fn child_at(nodes: &[u32], n: u32, i: u32) -> View
     ensures { λ r. ⌜ answer r ≡ child i (now (nodes .entry)) n ⌝ }
 {
     NodeView::new(nodes, n).child(i)
 }
 
+pub fn child_count_at(nodes: &[u32], n: u32) -> Count
+    ensures { λ r. ⌜ counts r ≡ childCount (now (nodes .entry)) n ⌝ }
+{
+    NodeView::new(nodes, n).child_count()
+}
+
+pub fn ident_at(nodes: &[u32], n: u32) -> View
+    ensures { λ r. ⌜ answer r ≡ ident (now (nodes .entry)) n ⌝ }
+{
+    NodeView::new(nodes, n).ident()
+}
+
 // The name that another node is, by a view that moves there.
-fn ident_at(nodes: &[u32], n: u32, c: u32) -> View
+fn moved_ident(nodes: &[u32], n: u32, c: u32) -> View
     ensures { λ r. ⌜ answer r ≡ ident (now (nodes .entry)) c ⌝ }
 {
     NodeView::new(nodes, n).at(c).ident()
@@ -88,6 +113,6 @@ pub fn child_ident(nodes: &[u32], n: u32, i: u32) -> View
     match child_at(nodes, n, i) {
         View::None => View::None,
         View::Refused(place) => View::Refused(place),
-        View::Is(c) => ident_at(nodes, n, c),
+        View::Is(c) => moved_ident(nodes, n, c),
     }
 }

@@ -91,7 +91,7 @@ OnTree node = Place
 OnTree number = ℕ
 OnTree tokens = TokenSpan
 
--- "a node of another kind than the view's is none"
+-- "a node of another kind than the view's .. is answered with none" (01, Refusals)
 abbrev pub ofKind : {A : Type 0} → ℕ → ℕ → Place → Option A → Option A
 ofKind first last p a = cond (among first last (Tree.kind p)) a Option.none
 

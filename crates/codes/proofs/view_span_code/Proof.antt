@@ -1,5 +1,5 @@
 -- `view_span_code` meets its contract.
-use mathlib.Core.Path.{refl, _∙_}
+use mathlib.Core.Path.{_∙_}
 use borrow.Author.Needs.{needs}
 use Rattle.codes.proofs.view_span_code.Statement.{statement}
 use Rattle.codes.proofs.view_span_code.Tie as tie
@@ -24,8 +24,10 @@ same-length c = search needs
 
 returns : tie.Need-returns
 returns c =
-    let told = c .before .before .before .before .before .seen .given .1 in
-    (rw told, c .before .before .put-span .ensures ∙ rw told)
+    let at-put-span = c .before .before in
+    let at-seen = at-put-span .before .before .before in
+    let told = at-seen .seen .given .1 in
+    (rw told, at-put-span .put-span .ensures ∙ rw told)
 
 returns-2 : tie.Need-returns-2
 returns-2 c = search needs

@@ -18,7 +18,10 @@ enum-known-number : tie.Need-enum-known-number
 enum-known-number c = search needs
 
 cast-refusal-code : tie.Need-cast-refusal-code
-cast-refusal-code c = omega (arith, place-small _ _ _ _ (ap answer (sym (c .before .number .given .1)) ∙ c .before .before .before .before .before .lex .ensures .0))
+cast-refusal-code c =
+    let at-number = c .before in
+    let at-lex = at-number .before .before .before .before in
+    omega (arith, place-small _ _ _ _ (ap answer (sym (at-number .number .given .1)) ∙ at-lex .lex .ensures .0))
 
 refusal-code-requires : tie.Need-refusal-code-requires
 refusal-code-requires c κs = search needs
@@ -27,13 +30,19 @@ same-length : tie.Need-same-length
 same-length c = search needs
 
 returns : tie.Need-returns
-returns c = (ap coded (ap answer (sym (c .before .n .given .1)) ∙ c .before .before .before .before .before .lex .ensures .0), c .before .before .before .before .before .lex .ensures .1)
+returns c =
+    let at-n = c .before in
+    let at-lex = at-n .before .before .before .before in
+    (ap coded (ap answer (sym (at-n .n .given .1)) ∙ at-lex .lex .ensures .0), at-lex .lex .ensures .1)
 
 same-length-2 : tie.Need-same-length-2
 same-length-2 c = search needs
 
 returns-2 : tie.Need-returns-2
-returns-2 c = (c .refusal-code .ensures ∙ ap coded (ap answer (sym (c .before .before .number .given .1)) ∙ c .before .before .before .before .before .before .lex .ensures .0), c .before .before .before .before .before .before .lex .ensures .1)
+returns-2 c =
+    let at-number = c .before .before in
+    let at-lex = at-number .before .before .before .before in
+    (c .refusal-code .ensures ∙ ap coded (ap answer (sym (at-number .number .given .1)) ∙ at-lex .lex .ensures .0), at-lex .lex .ensures .1)
 
 pub plank-lex-spec : {M : Type 1} → statement M
 plank-lex-spec =

@@ -36,7 +36,11 @@ same-length-5 : tie.Need-same-length-5
 same-length-5 c = search needs
 
 returns : tie.Need-returns
-returns c = told (c .before .before .before .before .before .before .before .before .before .before .before .before .before .before .before .read .ensures .0) (c .before .before .before .before .before .t .given .1) refl (c .before .before .put-counts .ensures)
+returns c =
+    let at-put-counts = c .before .before in
+    let at-t = at-put-counts .before .before .before in
+    let at-read = at-t .before .before .before .before .before .before .before .before .before .before in
+    told (at-read .read .ensures .0) (at-t .t .given .1) refl (at-put-counts .put-counts .ensures)
 
 same-length-6 : tie.Need-same-length-6
 same-length-6 c = search needs
@@ -51,7 +55,10 @@ same-length-9 : tie.Need-same-length-9
 same-length-9 c = search needs
 
 returns-2 : tie.Need-returns-2
-returns-2 c = told (c .before .before .before .before .before .before .before .before .before .before .before .before .read .ensures .0) (c .before .before .number .given .1) (c .refusal-code .ensures) refl
+returns-2 c =
+    let at-number = c .before .before in
+    let at-read = at-number .before .before .before .before .before .before .before .before .before .before in
+    told (at-read .read .ensures .0) (at-number .number .given .1) (c .refusal-code .ensures) refl
 
 pub plank-read-spec : {M : Type 1} → statement M
 plank-read-spec =

@@ -27,16 +27,34 @@ enum-known-place : tie.Need-enum-known-place Inv-loop μ-loop
 enum-known-place c = search needs
 
 returns : tie.Need-returns Inv-loop μ-loop
-returns c = peel-refused _ _ _ (c .before .before .before .before .loop-test .taken) _ _ (rw (c .before .place .given .1) at (c .before .before .before .look .ensures)) ∙ c .before .before .before .before .before .loop .inv
+returns c =
+    let at-place = c .before in
+    let at-look = at-place .before .before in
+    let at-loop-test = at-look .before in
+    let at-loop = at-loop-test .before in
+    peel-refused _ _ _ (at-loop-test .loop-test .taken) _ _ (rw (at-place .place .given .1) at (at-look .look .ensures)) ∙ at-loop .loop .inv
 
 enum-known-found : tie.Need-enum-known-found Inv-loop μ-loop
 enum-known-found c = search needs
 
 returns-2 : tie.Need-returns-2 Inv-loop μ-loop
-returns-2 c = peel-inner _ _ _ (rw (c .before .before .found .given .1) at (c .before .before .before .before .look .ensures)) _ (c .before .before .before .before .before .loop-test .taken) (c .if1 .taken) ∙ c .before .before .before .before .before .before .loop .inv
+returns-2 c =
+    let at-found = c .before .before in
+    let at-look = at-found .before .before in
+    let at-loop-test = at-look .before in
+    let at-loop = at-loop-test .before in
+    peel-inner _ _ _ (rw (at-found .found .given .1) at (at-look .look .ensures)) _ (at-loop-test .loop-test .taken) (c .if1 .taken)
+    ∙ at-loop .loop .inv
 
 returns-3 : tie.Need-returns-3 Inv-loop μ-loop
-returns-3 c = peel-empty _ _ _ (rw (c .before .before .before .found .given .1) at (c .before .before .before .before .before .look .ensures)) (c .before .if1 .left) _ (c .before .before .before .before .before .before .loop-test .taken) (c .if2 .taken) ∙ c .before .before .before .before .before .before .before .loop .inv
+returns-3 c =
+    let at-if1 = c .before in
+    let at-found = at-if1 .before .before in
+    let at-look = at-found .before .before in
+    let at-loop-test = at-look .before in
+    let at-loop = at-loop-test .before in
+    peel-empty _ _ _ (rw (at-found .found .given .1) at (at-look .look .ensures)) (at-if1 .if1 .left) _ (at-loop-test .loop-test .taken)
+    (c .if2 .taken) ∙ at-loop .loop .inv
 
 sub-turns : tie.Need-sub-turns Inv-loop μ-loop
 sub-turns c = search needs
@@ -45,7 +63,14 @@ loop-less : tie.Need-loop-less Inv-loop μ-loop
 loop-less c = search needs
 
 loop-again : tie.Need-loop-again Inv-loop μ-loop
-loop-again c = peel-deeper _ _ _ (rw (c .before .before .before .found .given .1) at (c .before .before .before .before .before .look .ensures)) (c .before .if1 .left) _ (c .before .before .before .before .before .before .loop-test .taken) (c .if2 .left) ∙ c .before .before .before .before .before .before .before .loop .inv
+loop-again c =
+    let at-if1 = c .before in
+    let at-found = at-if1 .before .before in
+    let at-look = at-found .before .before in
+    let at-loop-test = at-look .before in
+    let at-loop = at-loop-test .before in
+    peel-deeper _ _ _ (rw (at-found .found .given .1) at (at-look .look .ensures)) (at-if1 .if1 .left) _ (at-loop-test .loop-test .taken)
+    (c .if2 .left) ∙ at-loop .loop .inv
 
 returns-4 : tie.Need-returns-4 Inv-loop μ-loop
 returns-4 c = peel-over _ _ _ (c .loop-test .left) ∙ c .before .loop .inv

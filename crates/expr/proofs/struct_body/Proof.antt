@@ -43,15 +43,33 @@ returns-2 c = then-refused _ _ _ _ (rw (c .before .place .given .1) at (c .befor
 
 returns-3 : tie.Need-returns-3
 unfolding structBody
-returns-3 c = c .new-child .ensures ∙ else-none _ _ (rw (c .before .enum-told2 .given .1) at (c .before .before .before .new-of .ensures)) ∙ then-is _ _ _ (rw (c .before .before .before .before .before .first .given .1) at (c .before .before .before .before .before .before .before .nth-of .ensures))
+returns-3 c =
+    let at-enum-told2 = c .before in
+    let at-new-of = at-enum-told2 .before .before in
+    let at-first = at-new-of .before .before in
+    let at-nth-of = at-first .before .before in
+    c .new-child .ensures ∙ else-none _ _ (rw (at-enum-told2 .enum-told2 .given .1) at (at-new-of .new-of .ensures)) ∙ then-is _ _ _
+    (rw (at-first .first .given .1) at (at-nth-of .nth-of .ensures))
 
 returns-4 : tie.Need-returns-4
 unfolding structBody
-returns-4 c = else-refused _ _ _ _ (rw (c .before .place2 .given .1) at (c .before .before .before .new-of .ensures)) ∙ then-is _ _ _ (rw (c .before .before .before .before .before .first .given .1) at (c .before .before .before .before .before .before .before .nth-of .ensures))
+returns-4 c =
+    let at-place2 = c .before in
+    let at-new-of = at-place2 .before .before in
+    let at-first = at-new-of .before .before in
+    let at-nth-of = at-first .before .before in
+    else-refused _ _ _ _ (rw (at-place2 .place2 .given .1) at (at-new-of .new-of .ensures)) ∙ then-is _ _ _
+    (rw (at-first .first .given .1) at (at-nth-of .nth-of .ensures))
 
 returns-5 : tie.Need-returns-5
 unfolding structBody
-returns-5 c = else-is _ _ _ (rw (c .before .c .given .1) at (c .before .before .before .new-of .ensures)) ∙ then-is _ _ _ (rw (c .before .before .before .before .before .first .given .1) at (c .before .before .before .before .before .before .before .nth-of .ensures))
+returns-5 c =
+    let at-c = c .before in
+    let at-new-of = at-c .before .before in
+    let at-first = at-new-of .before .before in
+    let at-nth-of = at-first .before .before in
+    else-is _ _ _ (rw (at-c .c .given .1) at (at-new-of .new-of .ensures)) ∙ then-is _ _ _
+    (rw (at-first .first .given .1) at (at-nth-of .nth-of .ensures))
 
 pub struct-body-spec : {M : Type 1} → statement M
 struct-body-spec =

@@ -30,7 +30,11 @@ returns-3 : tie.Need-returns-3
 returns-3 c = then-refused _ _ _ _ (rw (c .before .place .given .1) at (c .before .before .before .flag-of .ensures))
 
 returns-4 : tie.Need-returns-4
-returns-4 c = c .expr-of .ensures ∙ flag-set _ _ _ (c .before .if1 .left) ∙ then-is _ _ _ (rw (c .before .before .before .typed .given .1) at (c .before .before .before .before .before .flag-of .ensures))
+returns-4 c =
+    let at-if1 = c .before in
+    let at-typed = at-if1 .before .before in
+    let at-flag-of = at-typed .before .before in
+    c .expr-of .ensures ∙ flag-set _ _ _ (at-if1 .if1 .left) ∙ then-is _ _ _ (rw (at-typed .typed .given .1) at (at-flag-of .flag-of .ensures))
 
 pub type-of-spec : {M : Type 1} → statement M
 type-of-spec =

@@ -45,7 +45,15 @@ kept-requires-3 : tie.Need-kept-requires-3
 kept-requires-3 c κs = search needs
 
 returns-5 : tie.Need-returns-5
-returns-5 c = c .kept3 .ensures ∙ whole-child _ _ _ (c .before .before .before .before .before .before .if1 .left) (c .before .before .before .before .before .if2 .left) _ (c .before .before .before .before .asked .ensures) (c .before .before .before .if3 .left) (c .before .before .if4 .left) _ (c .before .nth-of .ensures)
+returns-5 c =
+    let at-nth-of = c .before in
+    let at-if4 = at-nth-of .before in
+    let at-if3 = at-if4 .before in
+    let at-asked = at-if3 .before in
+    let at-if2 = at-asked .before in
+    let at-if1 = at-if2 .before in
+    c .kept3 .ensures ∙ whole-child _ _ _ (at-if1 .if1 .left) (at-if2 .if2 .left) _ (at-asked .asked .ensures) (at-if3 .if3 .left)
+    (at-if4 .if4 .left) _ (at-nth-of .nth-of .ensures)
 
 pub whole-spec : {M : Type 1} → statement M
 whole-spec =

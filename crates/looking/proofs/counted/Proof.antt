@@ -30,13 +30,27 @@ enum-known-place : tie.Need-enum-known-place Inv-loop μ-loop
 enum-known-place c = search needs
 
 returns-2 : tie.Need-returns-2 Inv-loop μ-loop
-returns-2 c = counted-refused _ _ _ _ _ _ (c .before .before .before .before .if1 .left) _ (c .before .before .before .before .before .loop-test .taken) _ _ (rw (c .before .place .given .1) at (c .before .before .before .look .ensures)) ∙ c .before .before .before .before .before .before .loop .inv .0
+returns-2 c =
+    let at-place = c .before in
+    let at-look = at-place .before .before in
+    let at-if1 = at-look .before in
+    let at-loop-test = at-if1 .before in
+    let at-loop = at-loop-test .before in
+    counted-refused _ _ _ _ _ _ (at-if1 .if1 .left) _ (at-loop-test .loop-test .taken) _ _
+    (rw (at-place .place .given .1) at (at-look .look .ensures)) ∙ at-loop .loop .inv .0
 
 enum-known-node : tie.Need-enum-known-node Inv-loop μ-loop
 enum-known-node c = search needs
 
 returns-3 : tie.Need-returns-3 Inv-loop μ-loop
-returns-3 c = counted-stopped _ _ _ _ _ _ (c .before .before .before .before .before .if1 .left) _ (rw (c .before .before .node .given .1) at (c .before .before .before .before .look .ensures)) _ (c .before .before .before .before .before .before .loop-test .taken) (c .if2 .taken) ∙ c .before .before .before .before .before .before .before .loop .inv .0
+returns-3 c =
+    let at-node = c .before .before in
+    let at-look = at-node .before .before in
+    let at-if1 = at-look .before in
+    let at-loop-test = at-if1 .before in
+    let at-loop = at-loop-test .before in
+    counted-stopped _ _ _ _ _ _ (at-if1 .if1 .left) _ (rw (at-node .node .given .1) at (at-look .look .ensures)) _ (at-loop-test .loop-test .taken)
+    (c .if2 .taken) ∙ at-loop .loop .inv .0
 
 sub-turns : tie.Need-sub-turns Inv-loop μ-loop
 sub-turns c = search needs
@@ -45,13 +59,34 @@ loop-less : tie.Need-loop-less Inv-loop μ-loop
 loop-less c = search needs
 
 loop-again : tie.Need-loop-again Inv-loop μ-loop
-loop-again c = (counted-below _ _ _ _ _ _ (c .before .before .before .before .before .before .if1 .left) _ (rw (c .before .before .before .node .given .1) at (c .before .before .before .before .before .look .ensures)) (c .before .if2 .left) _ (c .before .before .before .before .before .before .before .loop-test .taken) (c .if3 .taken) ∙ c .before .before .before .before .before .before .before .before .loop .inv .0, omega arith)
+loop-again c =
+    let at-if2 = c .before in
+    let at-node = at-if2 .before .before in
+    let at-look = at-node .before .before in
+    let at-if1 = at-look .before in
+    let at-loop-test = at-if1 .before in
+    let at-loop = at-loop-test .before in (
+      counted-below _ _ _ _ _ _ (at-if1 .if1 .left) _ (rw (at-node .node .given .1) at (at-look .look .ensures)) (at-if2 .if2 .left) _
+          (at-loop-test .loop-test .taken) (c .if3 .taken) ∙ at-loop .loop .inv .0,
+      omega arith,
+    )
 
 loop-less-2 : tie.Need-loop-less-2 Inv-loop μ-loop
 loop-less-2 c = search needs
 
 loop-again-2 : tie.Need-loop-again-2 Inv-loop μ-loop
-loop-again-2 c = (counted-above _ _ _ _ _ _ (c .before .before .before .before .before .before .before .if1 .left) _ (rw (c .before .before .before .before .node .given .1) at (c .before .before .before .before .before .before .look .ensures)) (c .before .before .if2 .left) (c .before .if3 .left) _ (c .before .before .before .before .before .before .before .before .loop-test .taken) (c .if4 .taken) ∙ c .before .before .before .before .before .before .before .before .before .loop .inv .0, omega arith)
+loop-again-2 c =
+    let at-if3 = c .before in
+    let at-if2 = at-if3 .before in
+    let at-node = at-if2 .before .before in
+    let at-look = at-node .before .before in
+    let at-if1 = at-look .before in
+    let at-loop-test = at-if1 .before in
+    let at-loop = at-loop-test .before in (
+      counted-above _ _ _ _ _ _ (at-if1 .if1 .left) _ (rw (at-node .node .given .1) at (at-look .look .ensures)) (at-if2 .if2 .left)
+          (at-if3 .if3 .left) _ (at-loop-test .loop-test .taken) (c .if4 .taken) ∙ at-loop .loop .inv .0,
+      omega arith,
+    )
 
 add-sum : tie.Need-add-sum Inv-loop μ-loop
 add-sum c = search needs
@@ -60,7 +95,18 @@ loop-less-3 : tie.Need-loop-less-3 Inv-loop μ-loop
 loop-less-3 c = search needs
 
 loop-again-3 : tie.Need-loop-again-3 Inv-loop μ-loop
-loop-again-3 c = (counted-one _ _ _ _ _ _ (c .before .before .before .before .before .before .before .if1 .left) _ (rw (c .before .before .before .before .node .given .1) at (c .before .before .before .before .before .before .look .ensures)) (c .before .before .if2 .left) (c .before .if3 .left) _ (c .before .before .before .before .before .before .before .before .loop-test .taken) (c .if4 .left) ∙ c .before .before .before .before .before .before .before .before .before .loop .inv .0, omega arith)
+loop-again-3 c =
+    let at-if3 = c .before in
+    let at-if2 = at-if3 .before in
+    let at-node = at-if2 .before .before in
+    let at-look = at-node .before .before in
+    let at-if1 = at-look .before in
+    let at-loop-test = at-if1 .before in
+    let at-loop = at-loop-test .before in (
+      counted-one _ _ _ _ _ _ (at-if1 .if1 .left) _ (rw (at-node .node .given .1) at (at-look .look .ensures)) (at-if2 .if2 .left)
+          (at-if3 .if3 .left) _ (at-loop-test .loop-test .taken) (c .if4 .left) ∙ at-loop .loop .inv .0,
+      omega arith,
+    )
 
 returns-4 : tie.Need-returns-4 Inv-loop μ-loop
 returns-4 c = counted-over _ _ _ _ _ _ _ (c .loop-test .left) ∙ c .before .loop .inv .0

@@ -29,13 +29,27 @@ enum-known-place : tie.Need-enum-known-place Inv-loop μ-loop
 enum-known-place c = search needs
 
 returns-2 : tie.Need-returns-2 Inv-loop μ-loop
-returns-2 c = nth-refused _ _ _ _ _ _ (c .before .before .before .before .if1 .left) _ (c .before .before .before .before .before .loop-test .taken) _ _ (rw (c .before .place .given .1) at (c .before .before .before .look .ensures)) ∙ c .before .before .before .before .before .before .loop .inv
+returns-2 c =
+    let at-place = c .before in
+    let at-look = at-place .before .before in
+    let at-if1 = at-look .before in
+    let at-loop-test = at-if1 .before in
+    let at-loop = at-loop-test .before in
+    nth-refused _ _ _ _ _ _ (at-if1 .if1 .left) _ (at-loop-test .loop-test .taken) _ _ (rw (at-place .place .given .1) at (at-look .look .ensures))
+    ∙ at-loop .loop .inv
 
 enum-known-found : tie.Need-enum-known-found Inv-loop μ-loop
 enum-known-found c = search needs
 
 returns-3 : tie.Need-returns-3 Inv-loop μ-loop
-returns-3 c = nth-stopped _ _ _ _ _ _ (c .before .before .before .before .before .if1 .left) _ (rw (c .before .before .found .given .1) at (c .before .before .before .before .look .ensures)) _ (c .before .before .before .before .before .before .loop-test .taken) (c .if2 .taken) ∙ c .before .before .before .before .before .before .before .loop .inv
+returns-3 c =
+    let at-found = c .before .before in
+    let at-look = at-found .before .before in
+    let at-if1 = at-look .before in
+    let at-loop-test = at-if1 .before in
+    let at-loop = at-loop-test .before in
+    nth-stopped _ _ _ _ _ _ (at-if1 .if1 .left) _ (rw (at-found .found .given .1) at (at-look .look .ensures)) _ (at-loop-test .loop-test .taken)
+    (c .if2 .taken) ∙ at-loop .loop .inv
 
 sub-turns : tie.Need-sub-turns Inv-loop μ-loop
 sub-turns c = search needs
@@ -44,16 +58,43 @@ loop-less : tie.Need-loop-less Inv-loop μ-loop
 loop-less c = search needs
 
 loop-again : tie.Need-loop-again Inv-loop μ-loop
-loop-again c = nth-below _ _ _ _ _ _ (c .before .before .before .before .before .before .if1 .left) _ (rw (c .before .before .before .found .given .1) at (c .before .before .before .before .before .look .ensures)) (c .before .if2 .left) _ (c .before .before .before .before .before .before .before .loop-test .taken) (c .if3 .taken) ∙ c .before .before .before .before .before .before .before .before .loop .inv
+loop-again c =
+    let at-if2 = c .before in
+    let at-found = at-if2 .before .before in
+    let at-look = at-found .before .before in
+    let at-if1 = at-look .before in
+    let at-loop-test = at-if1 .before in
+    let at-loop = at-loop-test .before in
+    nth-below _ _ _ _ _ _ (at-if1 .if1 .left) _ (rw (at-found .found .given .1) at (at-look .look .ensures)) (at-if2 .if2 .left) _
+    (at-loop-test .loop-test .taken) (c .if3 .taken) ∙ at-loop .loop .inv
 
 loop-less-2 : tie.Need-loop-less-2 Inv-loop μ-loop
 loop-less-2 c = search needs
 
 loop-again-2 : tie.Need-loop-again-2 Inv-loop μ-loop
-loop-again-2 c = nth-above _ _ _ _ _ _ (c .before .before .before .before .before .before .before .if1 .left) _ (rw (c .before .before .before .before .found .given .1) at (c .before .before .before .before .before .before .look .ensures)) (c .before .before .if2 .left) (c .before .if3 .left) _ (c .before .before .before .before .before .before .before .before .loop-test .taken) (c .if4 .taken) ∙ c .before .before .before .before .before .before .before .before .before .loop .inv
+loop-again-2 c =
+    let at-if3 = c .before in
+    let at-if2 = at-if3 .before in
+    let at-found = at-if2 .before .before in
+    let at-look = at-found .before .before in
+    let at-if1 = at-look .before in
+    let at-loop-test = at-if1 .before in
+    let at-loop = at-loop-test .before in
+    nth-above _ _ _ _ _ _ (at-if1 .if1 .left) _ (rw (at-found .found .given .1) at (at-look .look .ensures)) (at-if2 .if2 .left)
+    (at-if3 .if3 .left) _ (at-loop-test .loop-test .taken) (c .if4 .taken) ∙ at-loop .loop .inv
 
 returns-4 : tie.Need-returns-4 Inv-loop μ-loop
-returns-4 c = nth-found _ _ _ _ _ _ (c .before .before .before .before .before .before .before .before .if1 .left) _ (rw (c .before .before .before .before .before .found .given .1) at (c .before .before .before .before .before .before .before .look .ensures)) (c .before .before .before .if2 .left) (c .before .before .if3 .left) (c .before .if4 .left) _ (c .before .before .before .before .before .before .before .before .before .loop-test .taken) (c .if5 .taken) ∙ c .before .before .before .before .before .before .before .before .before .before .loop .inv
+returns-4 c =
+    let at-if4 = c .before in
+    let at-if3 = at-if4 .before in
+    let at-if2 = at-if3 .before in
+    let at-found = at-if2 .before .before in
+    let at-look = at-found .before .before in
+    let at-if1 = at-look .before in
+    let at-loop-test = at-if1 .before in
+    let at-loop = at-loop-test .before in
+    nth-found _ _ _ _ _ _ (at-if1 .if1 .left) _ (rw (at-found .found .given .1) at (at-look .look .ensures)) (at-if2 .if2 .left) (at-if3 .if3 .left)
+    (at-if4 .if4 .left) _ (at-loop-test .loop-test .taken) (c .if5 .taken) ∙ at-loop .loop .inv
 
 sub-left : tie.Need-sub-left Inv-loop μ-loop
 sub-left c = search needs
@@ -62,7 +103,17 @@ loop-less-3 : tie.Need-loop-less-3 Inv-loop μ-loop
 loop-less-3 c = search needs
 
 loop-again-3 : tie.Need-loop-again-3 Inv-loop μ-loop
-loop-again-3 c = nth-passed _ _ _ _ _ _ (c .before .before .before .before .before .before .before .before .if1 .left) _ (rw (c .before .before .before .before .before .found .given .1) at (c .before .before .before .before .before .before .before .look .ensures)) (c .before .before .before .if2 .left) (c .before .before .if3 .left) (c .before .if4 .left) _ (c .before .before .before .before .before .before .before .before .before .loop-test .taken) (c .if5 .left) ∙ c .before .before .before .before .before .before .before .before .before .before .loop .inv
+loop-again-3 c =
+    let at-if4 = c .before in
+    let at-if3 = at-if4 .before in
+    let at-if2 = at-if3 .before in
+    let at-found = at-if2 .before .before in
+    let at-look = at-found .before .before in
+    let at-if1 = at-look .before in
+    let at-loop-test = at-if1 .before in
+    let at-loop = at-loop-test .before in
+    nth-passed _ _ _ _ _ _ (at-if1 .if1 .left) _ (rw (at-found .found .given .1) at (at-look .look .ensures)) (at-if2 .if2 .left) (at-if3 .if3 .left)
+    (at-if4 .if4 .left) _ (at-loop-test .loop-test .taken) (c .if5 .left) ∙ at-loop .loop .inv
 
 returns-5 : tie.Need-returns-5 Inv-loop μ-loop
 returns-5 c = nth-over _ _ _ _ _ _ _ (c .loop-test .left) ∙ c .before .loop .inv

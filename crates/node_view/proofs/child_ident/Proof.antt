@@ -17,8 +17,8 @@ enum-known-place c = search needs
 enum-known-c : tie.Need-enum-known-c
 enum-known-c c = search needs
 
-ident-at-requires : tie.Need-ident-at-requires
-ident-at-requires c κs = search needs
+moved-ident-requires : tie.Need-moved-ident-requires
+moved-ident-requires c κs = search needs
 
 returns : tie.Need-returns
 returns c = then-none _ _ (rw (c .enum-told .given .1) at (c .before .before .child-at .ensures))
@@ -27,7 +27,7 @@ returns-2 : tie.Need-returns-2
 returns-2 c = then-refused _ _ _ _ (rw (c .before .place .given .1) at (c .before .before .before .child-at .ensures))
 
 returns-3 : tie.Need-returns-3
-returns-3 c = c .ident-at .ensures ∙ then-is _ _ _ (rw (c .before .before .c .given .1) at (c .before .before .before .before .child-at .ensures))
+returns-3 c = c .moved-ident .ensures ∙ then-is _ _ _ (rw (c .before .before .c .given .1) at (c .before .before .before .before .child-at .ensures))
 
 pub child-ident-spec : {M : Type 1} → statement M
 child-ident-spec =
@@ -37,7 +37,7 @@ child-ident-spec =
     enum-told
     enum-known-place
     enum-known-c
-    ident-at-requires
+    moved-ident-requires
     returns
     returns-2
     returns-3)

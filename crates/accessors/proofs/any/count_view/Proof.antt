@@ -13,5 +13,5 @@ count-view-spec =
     tie.close
     (tie.spec
     (λ c κs. search needs)
-    (λ c. c .child-count .ensures ∙ rw (c .before .match .keys1))
+    (λ c. c .child-count-at .ensures ∙ rw (c .before .match .keys1))
     (λ c. pick-other _ none (counts _ _) _ (c .match .rest)))

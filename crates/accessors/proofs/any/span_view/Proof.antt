@@ -13,5 +13,5 @@ span-view-spec =
     tie.close
     (tie.spec
     (λ c κs. search needs)
-    (λ c. c .span .ensures ∙ rw (c .before .match .keys1))
+    (λ c. c .span-at .ensures ∙ rw (c .before .match .keys1))
     (λ c. pick-other _ none (spans _ _) _ (c .match .rest)))

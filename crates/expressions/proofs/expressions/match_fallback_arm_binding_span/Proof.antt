@@ -30,7 +30,12 @@ returns-3 : tie.Need-returns-3
 returns-3 c = then-refused _ _ _ _ (rw (c .before .place .given .1) at (c .before .before .before .match-fallback-arm-bound .ensures))
 
 returns-4 : tie.Need-returns-4
-returns-4 c = c .span-child .ensures ∙ flag-set _ _ _ (c .before .if1 .left) ∙ then-is _ _ _ (rw (c .before .before .before .bound .given .1) at (c .before .before .before .before .before .match-fallback-arm-bound .ensures))
+returns-4 c =
+    let at-if1 = c .before in
+    let at-bound = at-if1 .before .before in
+    let at-match-fallback-arm-bound = at-bound .before .before in
+    c .span-child .ensures ∙ flag-set _ _ _ (at-if1 .if1 .left) ∙ then-is _ _ _
+    (rw (at-bound .bound .given .1) at (at-match-fallback-arm-bound .match-fallback-arm-bound .ensures))
 
 pub match-fallback-arm-binding-span-spec : {M : Type 1} → statement M
 match-fallback-arm-binding-span-spec =

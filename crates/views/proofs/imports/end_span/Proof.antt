@@ -30,7 +30,11 @@ returns-2 : tie.Need-returns-2
 returns-2 c = then-refused _ _ _ _ (rw (c .before .place .given .1) at (c .before .before .before .count-of .ensures))
 
 returns-3 : tie.Need-returns-3
-returns-3 c = (rw (c .before .less .ensures) at (c .segment-span .ensures)) ∙ then-is _ _ _ (rw (c .before .before .before .count .given .1) at (c .before .before .before .before .before .count-of .ensures))
+returns-3 c =
+    let at-less = c .before in
+    let at-count = at-less .before .before in
+    let at-count-of = at-count .before .before in
+    (rw (at-less .less .ensures) at (c .segment-span .ensures)) ∙ then-is _ _ _ (rw (at-count .count .given .1) at (at-count-of .count-of .ensures))
 
 pub end-span-spec : {M : Type 1} → statement M
 end-span-spec =

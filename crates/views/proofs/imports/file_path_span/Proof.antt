@@ -21,7 +21,12 @@ path-span-requires : tie.Need-path-span-requires
 path-span-requires c κs = search needs
 
 returns : tie.Need-returns
-returns c = c .path-span .ensures ∙ flag-unset _ _ _ (c .before .if1 .taken) ∙ then-is _ _ _ (rw (c .before .before .before .glob .given .1) at (c .before .before .before .before .before .import-glob .ensures))
+returns c =
+    let at-if1 = c .before in
+    let at-glob = at-if1 .before .before in
+    let at-import-glob = at-glob .before .before in
+    c .path-span .ensures ∙ flag-unset _ _ _ (at-if1 .if1 .taken) ∙ then-is _ _ _
+    (rw (at-glob .glob .given .1) at (at-import-glob .import-glob .ensures))
 
 path-span-requires-2 : tie.Need-path-span-requires-2
 path-span-requires-2 c κs = search needs
@@ -33,7 +38,12 @@ returns-3 : tie.Need-returns-3
 returns-3 c = then-refused _ _ _ _ (rw (c .before .place .given .1) at (c .before .before .before .import-glob .ensures))
 
 returns-4 : tie.Need-returns-4
-returns-4 c = c .path-span2 .ensures ∙ flag-set _ _ _ (c .before .if1 .left) ∙ then-is _ _ _ (rw (c .before .before .before .glob .given .1) at (c .before .before .before .before .before .import-glob .ensures))
+returns-4 c =
+    let at-if1 = c .before in
+    let at-glob = at-if1 .before .before in
+    let at-import-glob = at-glob .before .before in
+    c .path-span2 .ensures ∙ flag-set _ _ _ (at-if1 .if1 .left) ∙ then-is _ _ _
+    (rw (at-glob .glob .given .1) at (at-import-glob .import-glob .ensures))
 
 pub file-path-span-spec : {M : Type 1} → statement M
 file-path-span-spec =

@@ -30,7 +30,12 @@ returns-2 : tie.Need-returns-2
 returns-2 c = then-refused _ _ _ _ (rw (c .before .place .given .1) at (c .before .before .before .import-group-path-segment-count .ensures))
 
 returns-3 : tie.Need-returns-3
-returns-3 c = (rw (c .before .less .ensures) at (c .group-segment-span .ensures)) ∙ then-is _ _ _ (rw (c .before .before .before .count .given .1) at (c .before .before .before .before .before .import-group-path-segment-count .ensures))
+returns-3 c =
+    let at-less = c .before in
+    let at-count = at-less .before .before in
+    let at-import-group-path-segment-count = at-count .before .before in
+    (rw (at-less .less .ensures) at (c .group-segment-span .ensures)) ∙ then-is _ _ _
+    (rw (at-count .count .given .1) at (at-import-group-path-segment-count .import-group-path-segment-count .ensures))
 
 pub group-end-span-spec : {M : Type 1} → statement M
 group-end-span-spec =

@@ -37,7 +37,11 @@ returns-2 : tie.Need-returns-2
 returns-2 c = then-refused _ _ _ _ (rw (c .before .place .given .1) at (c .before .before .before .flag-of .ensures))
 
 returns-3 : tie.Need-returns-3
-returns-3 c = c .kept .ensures ∙ ap (kept _) (c .before .nth-of .ensures) ∙ then-is _ _ _ (rw (c .before .before .before .typed .given .1) at (c .before .before .before .before .before .flag-of .ensures))
+returns-3 c =
+    let at-nth-of = c .before in
+    let at-typed = at-nth-of .before .before in
+    let at-flag-of = at-typed .before .before in
+    c .kept .ensures ∙ ap (kept _) (at-nth-of .nth-of .ensures) ∙ then-is _ _ _ (rw (at-typed .typed .given .1) at (at-flag-of .flag-of .ensures))
 
 pub let-stmt-whole-spec : {M : Type 1} → statement M
 let-stmt-whole-spec =

@@ -33,14 +33,38 @@ while-stmt-requires-2 c κs = search needs
 
 returns-5 : tie.Need-returns-5
 unfolding statementOf
-returns-5 c = rw (ne-eqb _ Node.LetStmt (c .before .before .before .before .before .if1 .left), ne-eqb _ Node.ReturnStmt (c .before .before .before .before .if2 .left), ne-eqb _ Node.AssignStmt (c .before .before .before .if3 .left), ne-eqb _ Node.WhileStmt (c .before .before .if4 .left), eq-eqb _ Node.InlineWhileStmt (c .before .if5 .taken)) (c .while-stmt2 .ensures)
+returns-5 c =
+    let at-if5 = c .before in
+    let at-if4 = at-if5 .before in
+    let at-if3 = at-if4 .before in
+    let at-if2 = at-if3 .before in
+    let at-if1 = at-if2 .before in
+    rw (
+      ne-eqb _ Node.LetStmt (at-if1 .if1 .left),
+      ne-eqb _ Node.ReturnStmt (at-if2 .if2 .left),
+      ne-eqb _ Node.AssignStmt (at-if3 .if3 .left),
+      ne-eqb _ Node.WhileStmt (at-if4 .if4 .left),
+      eq-eqb _ Node.InlineWhileStmt (at-if5 .if5 .taken),
+    ) (c .while-stmt2 .ensures)
 
 expr-requires : tie.Need-expr-requires
 expr-requires c κs = search needs
 
 returns-6 : tie.Need-returns-6
 unfolding statementOf
-returns-6 c = rw (ne-eqb _ Node.LetStmt (c .before .before .before .before .before .if1 .left), ne-eqb _ Node.ReturnStmt (c .before .before .before .before .if2 .left), ne-eqb _ Node.AssignStmt (c .before .before .before .if3 .left), ne-eqb _ Node.WhileStmt (c .before .before .if4 .left), ne-eqb _ Node.InlineWhileStmt (c .before .if5 .left)) (c .expr .ensures)
+returns-6 c =
+    let at-if5 = c .before in
+    let at-if4 = at-if5 .before in
+    let at-if3 = at-if4 .before in
+    let at-if2 = at-if3 .before in
+    let at-if1 = at-if2 .before in
+    rw (
+      ne-eqb _ Node.LetStmt (at-if1 .if1 .left),
+      ne-eqb _ Node.ReturnStmt (at-if2 .if2 .left),
+      ne-eqb _ Node.AssignStmt (at-if3 .if3 .left),
+      ne-eqb _ Node.WhileStmt (at-if4 .if4 .left),
+      ne-eqb _ Node.InlineWhileStmt (at-if5 .if5 .left),
+    ) (c .expr .ensures)
 
 pub statement-of-spec : {M : Type 1} → statement M
 statement-of-spec =
