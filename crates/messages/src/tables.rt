@@ -1,7 +1,7 @@
 // Tables of texts, a text to a line. A text that begins with a blank is written behind its subject.
 
 // What a report says, by `sentence_of`.
-pub const SENTENCES: [u8; 987] = *b"the report is of no known kind
+pub const SENTENCES: [u8; 973] = *b"the report is of no known kind
 this is no token of Plank
  is not expected here
  is missing here
@@ -18,7 +18,7 @@ a string can hold ASCII characters only
  is no hexadecimal digit
 a hex string must have an even number of digits
 a backslash can't be the last character of a string
-this character has no meaning outside of strings and comments
+ has no meaning outside of strings and comments
 this number has a letter or a digit that can't be part of it
 this string doesn't end on the line on which it begins
 this comment is never closed: '*/' is missing

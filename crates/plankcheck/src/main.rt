@@ -8,15 +8,15 @@ mod tree;
 use libc::STDIN_FILENO;
 use plank::Outcome;
 
-// The words that are lent: what a script of 65,536 bytes takes at most, as far as is known. A token for each byte, and Eof; three
-// nodes, two words of values and a report for each byte.
+// The words that are lent: what a script of 65,536 bytes takes at most, as argued in bindings/README.md. A token for each byte, and Eof;
+// three nodes for each byte, and File; two words of values for each; two reports for each, and one at Eof.
 const TOKENS: usize = 65537;
 
-const NODES: usize = 983040;
+const NODES: usize = 983045;
 
 const VALUES: usize = 131072;
 
-const REPORTS: usize = 196608;
+const REPORTS: usize = 393219;
 
 // What an argument was.
 enum Argument {

@@ -10,6 +10,27 @@ pub(crate) fn number(n: usize) {
     io::print_decimal(STDOUT_FILENO, n as u64);
 }
 
+fn digit(n: u32) {
+    let digits = *b"0123456789ABCDEF";
+    let at = (n % 16) as usize;
+    bytes(&digits[at..at + 1]);
+}
+
+// A character's number as Unicode writes it: `U+` and at least four hexadecimal digits.
+pub(crate) fn code_point(c: u32) {
+    bytes(b"U+");
+    if 0xFFFFF < c {
+        digit(c / 0x100000);
+    }
+    if 0xFFFF < c {
+        digit(c / 0x10000);
+    }
+    digit(c / 0x1000);
+    digit(c / 0x100);
+    digit(c / 0x10);
+    digit(c);
+}
+
 // A part of a text as it is; nothing where it is none.
 pub(crate) fn part(text: &[u8], start: usize, end: usize) {
     if end < start {

@@ -4,10 +4,13 @@ use crate::show;
 use crate::tree;
 use lexer::Lexed;
 use messages::Subject;
+use position::Extent;
+use utf8::Character;
 use words::REPORT_WIDTH;
 use words::Report;
 use words::refusal;
 use words::report;
+use words::token;
 
 // A place in a script, as `line:column`.
 fn print_position(text: &[u8], offset: usize) {
@@ -17,16 +20,29 @@ fn print_position(text: &[u8], offset: usize) {
     print::number(p.column);
 }
 
-// A character in quotes, as the script has it from an offset to another, or by its number where it is not seen.
-fn print_character(text: &[u8], character: u32, start: usize, end: usize) {
-    if character < 32 {
-        print::bytes(b"character ");
-        print::number(character as usize);
+// A character in quotes, as the script has it from an offset to another, with its number where it is not ASCII; by its number alone
+// where it is not seen.
+fn print_character(text: &[u8], c: u32, start: usize, end: usize) {
+    if c < 0x20 || messages::is_control(c) {
+        print::code_point(c);
         return;
     }
     print::bytes(b"'");
     print::part(text, start, end);
     print::bytes(b"'");
+    if 0x7F < c {
+        print::bytes(b" (");
+        print::code_point(c);
+        print::bytes(b")");
+    }
+}
+
+// The character that a report covers.
+fn print_covered(text: &[u8], r: Report) {
+    let start = r.start as usize;
+    if let Character::Is(c, _) = utf8::character_at(text, start) {
+        print_character(text, c, start, r.end as usize);
+    }
 }
 
 // Where the character that a report names starts: an escape's behind its backslash.
@@ -42,25 +58,52 @@ fn print_subject(text: &[u8], r: Report) {
     match messages::subject_of(r.kind, r.detail) {
         Subject::Token(kind) => print::token(kind),
         Subject::Character(c) => print_character(text, c, character_start(r), r.end as usize),
+        Subject::Covered => print_covered(text, r),
         Subject::Nothing => {}
     }
 }
 
 // `file:line:column: `
 fn print_head(name: &[u8], text: &[u8], offset: usize) {
-    print::bytes(name);
+    show::echo(name, 0, name.len());
     print::bytes(b":");
     print_position(text, offset);
     print::bytes(b": ");
 }
 
+// Where what is written ends: behind the last byte that is no blank.
+fn written_end(text: &[u8]) -> usize {
+    let mut at = text.len();
+    while 0 < at {
+        if at <= text.len() {
+            if !scan::is_blank(text[at - 1]) {
+                return at;
+            }
+        }
+        at -= 1;
+    }
+    at
+}
+
+// Where a report is shown: an end that comes too early is shown behind what is written, not on an empty line past it.
+fn shown_extent(text: &[u8], r: Report) -> Extent {
+    if r.kind == report::UNEXPECTED && r.detail == token::EOF {
+        let end = written_end(text);
+        return Extent { start: end, end };
+    }
+    Extent {
+        start: r.start as usize,
+        end: r.end as usize,
+    }
+}
+
 fn print_report(name: &[u8], text: &[u8], r: Report) {
-    let start = r.start as usize;
-    print_head(name, text, start);
+    let shown = shown_extent(text, r);
+    print_head(name, text, shown.start);
     print_subject(text, r);
     print::sentence(messages::sentence_of(r.kind, r.detail));
     print::bytes(b"\n");
-    show::place(text, start, r.end as usize);
+    show::place(text, shown.start, shown.end);
 }
 
 // So many reports, in the order in which they were made.
@@ -80,7 +123,7 @@ pub(crate) fn list(name: &[u8], text: &[u8], reports: &[u32], count: usize) {
 }
 
 pub(crate) fn summary(name: &[u8], count: usize) {
-    print::bytes(name);
+    show::echo(name, 0, name.len());
     if count == 0 {
         print::bytes(b": no mistakes\n");
         return;
@@ -123,7 +166,7 @@ fn print_refusal_place(text: &[u8], tokens: &mut [u32], number: u32, place: u32)
 }
 
 pub(crate) fn refused(name: &[u8], text: &[u8], tokens: &mut [u32], number: u32, place: u32) {
-    print::bytes(name);
+    show::echo(name, 0, name.len());
     print::bytes(b": refused: ");
     print::refusal(number);
     print_refusal_place(text, tokens, number, place);

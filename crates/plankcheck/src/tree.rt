@@ -95,7 +95,7 @@ fn shown_end(n: Node) -> u32 {
 fn print_tokens(text: &[u8], tokens: &[u32], first: u32, end: u32) {
     if first < end {
         print::bytes(b" ");
-        show::echo(text, token_start(tokens, first), token_start(tokens, end));
+        show::excerpt(text, token_start(tokens, first), token_start(tokens, end));
     }
 }
 

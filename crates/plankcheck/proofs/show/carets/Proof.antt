@@ -6,7 +6,7 @@ use Rattle.plankcheck.proofs.show.carets.Statement.{statement}
 use Rattle.plankcheck.proofs.show.carets.Tie as tie
 
 abbrev Inv-loop : tie.InvT-loop
-Inv-loop text start end place place-end line₀ n₀ stop at₀ line n at = n ≤ 167
+Inv-loop text start end place place-end line₀ n₀ stop at₀ line n at = n ≤ 1311
 
 abbrev μ-loop : tie.MeasureT-loop
 μ-loop text start end place place-end line₀ n₀ stop at₀ line n at = stop - at
@@ -20,20 +20,26 @@ least-requires c κs = search needs
 loop-holds : tie.Need-loop-holds Inv-loop μ-loop
 loop-holds c = search needs
 
-shared-slice-read-put-mark : tie.Need-shared-slice-read-put-mark Inv-loop μ-loop
-shared-slice-read-put-mark c = omega (arith, c .before .before .before .before .least .ensures)
+shared-slice-read-mark : tie.Need-shared-slice-read-mark Inv-loop μ-loop
+shared-slice-read-mark c = search needs
 
-put-mark-requires : tie.Need-put-mark-requires Inv-loop μ-loop
-put-mark-requires c κs = search needs
+mark-requires : tie.Need-mark-requires Inv-loop μ-loop
+mark-requires c κs = search needs
+
+columns-at-requires : tie.Need-columns-at-requires Inv-loop μ-loop
+columns-at-requires c κs = search needs
+
+put-marks-requires : tie.Need-put-marks-requires Inv-loop μ-loop
+put-marks-requires c κs = search needs
 
 add-at : tie.Need-add-at Inv-loop μ-loop
-add-at c = omega (arith, c .before .before .before .before .before .least .ensures)
+add-at c = search needs
 
 loop-less : tie.Need-loop-less Inv-loop μ-loop
 loop-less c = omega arith
 
 loop-again : tie.Need-loop-again Inv-loop μ-loop
-loop-again c = c .put-mark .ensures
+loop-again c = c .put-marks .ensures
 
 add-print-line : tie.Need-add-print-line Inv-loop μ-loop
 add-print-line c = search needs
@@ -59,8 +65,10 @@ carets-spec =
     carets-end-requires
     least-requires
     loop-holds
-    shared-slice-read-put-mark
-    put-mark-requires
+    shared-slice-read-mark
+    mark-requires
+    columns-at-requires
+    put-marks-requires
     add-at
     loop-less
     loop-again

@@ -1,42 +1,54 @@
--- `echo` is safe and ends: what is left of the part falls, and the line has room for it.
-use Prim.Native.Nat.{_-_, _≤_}
+-- `echo` is safe and ends: what is left of the part falls.
+use Prim.Native.Nat.{_-_}
 use native.Mathlib.Omega.{arith}
 use borrow.Author.Needs.{needs}
 use Rattle.plankcheck.proofs.show.echo.Statement.{statement}
 use Rattle.plankcheck.proofs.show.echo.Tie as tie
 
 abbrev Inv-loop : tie.InvT-loop
-Inv-loop text start end line₀ n₀ stop at₀ line n at = n ≤ 167
+Inv-loop text start end stop shown₀ at₀ shown at = Prim.Unit {0}
 
 abbrev μ-loop : tie.MeasureT-loop
-μ-loop text start end line₀ n₀ stop at₀ line n at = stop - at
+μ-loop text start end stop shown₀ at₀ shown at = stop - at
 
 least-requires : tie.Need-least-requires Inv-loop μ-loop
 least-requires c κs = search needs
 
 loop-holds : tie.Need-loop-holds Inv-loop μ-loop
-loop-holds c = search needs
+loop-holds c = Prim.tt
 
-shared-slice-read-shown : tie.Need-shared-slice-read-shown Inv-loop μ-loop
-shared-slice-read-shown c = omega (arith, c .before .before .before .before .least .ensures)
+control-at-requires : tie.Need-control-at-requires Inv-loop μ-loop
+control-at-requires c κs = search needs
 
-shown-requires : tie.Need-shown-requires Inv-loop μ-loop
-shown-requires c κs = search needs
+enum-known-c : tie.Need-enum-known-c Inv-loop μ-loop
+enum-known-c c = search needs
 
-put-requires : tie.Need-put-requires Inv-loop μ-loop
-put-requires c κs = search needs
+part-requires : tie.Need-part-requires Inv-loop μ-loop
+part-requires c κs = search needs
+
+print-control-requires : tie.Need-print-control-requires Inv-loop μ-loop
+print-control-requires c κs = search needs
+
+add-next-start : tie.Need-add-next-start Inv-loop μ-loop
+add-next-start c = search needs
+
+next-start-requires : tie.Need-next-start-requires Inv-loop μ-loop
+next-start-requires c κs = search needs
+
+enum-told : tie.Need-enum-told Inv-loop μ-loop
+enum-told c = search needs
 
 add-at : tie.Need-add-at Inv-loop μ-loop
-add-at c = omega (arith, c .before .before .before .before .before .before .least .ensures)
+add-at c = search needs
 
 loop-less : tie.Need-loop-less Inv-loop μ-loop
 loop-less c = omega arith
 
 loop-again : tie.Need-loop-again Inv-loop μ-loop
-loop-again c = c .put .ensures
+loop-again c = Prim.tt
 
-print-line-requires : tie.Need-print-line-requires Inv-loop μ-loop
-print-line-requires c κs = search needs
+part-requires-2 : tie.Need-part-requires-2 Inv-loop μ-loop
+part-requires-2 c κs = search needs
 
 returns : tie.Need-returns Inv-loop μ-loop
 returns c = search needs
@@ -49,11 +61,15 @@ echo-spec =
     μ-loop
     least-requires
     loop-holds
-    shared-slice-read-shown
-    shown-requires
-    put-requires
+    control-at-requires
+    enum-known-c
+    part-requires
+    print-control-requires
+    add-next-start
+    next-start-requires
+    enum-told
     add-at
     loop-less
     loop-again
-    print-line-requires
+    part-requires-2
     returns)

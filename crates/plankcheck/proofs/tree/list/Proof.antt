@@ -1,5 +1,5 @@
 -- `list` is safe and ends: what is left of the nodes falls.
-use mathlib.Core.Path.{_≡_, refl, _∙_}
+use mathlib.Core.Path.{_≡_}
 use lib.ListN.{length}
 use borrow.Author.Needs.{needs}
 use Rattle.plankcheck.proofs.tree.list.Statement.{statement}
