@@ -1,7 +1,9 @@
 // Replays the recorded answers of the Rust lexer, then those of the Rust parser.
+mod lexed;
+mod recorded;
 mod trees;
 
 fn main() {
-    records::replay_lexed();
+    lexed::replay_lexed();
     trees::replay_data();
 }

@@ -1,23 +1,23 @@
 // Replays the recorded answers of the Rust parser (data/parsed) and says which texts the parser answers otherwise.
+use crate::lexed::mark;
+use crate::lexed::number;
+use crate::recorded::Found;
+use crate::recorded::LONGEST_DATA;
+use crate::recorded::TRY_BYTES;
+use crate::recorded::Tree;
+use crate::recorded::Try;
+use crate::recorded::are_counts;
+use crate::recorded::are_recorded;
+use crate::recorded::are_zero;
+use crate::recorded::part;
+use crate::recorded::print_cut;
+use crate::recorded::print_differs;
+use crate::recorded::print_end;
+use crate::recorded::tree_at;
+use crate::recorded::try_at;
 use lexer::Lexed;
 use libc::STDOUT_FILENO;
 use parser::Parsed;
-use records::mark;
-use records::number;
-use records::trees::Found;
-use records::trees::LONGEST_DATA;
-use records::trees::TRY_BYTES;
-use records::trees::Tree;
-use records::trees::Try;
-use records::trees::are_counts;
-use records::trees::are_recorded;
-use records::trees::are_zero;
-use records::trees::part;
-use records::trees::print_cut;
-use records::trees::print_differs;
-use records::trees::print_end;
-use records::trees::tree_at;
-use records::trees::try_at;
 
 // What a record's replay showed; the place is where the next record starts.
 enum Turn {

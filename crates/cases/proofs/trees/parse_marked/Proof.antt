@@ -16,13 +16,22 @@ parse-requires : tie.Need-parse-requires
 parse-requires c κs = tt
 
 same-length : tie.Need-same-length
-same-length c = c .before .before .before .before .before .before .parse .kept .1 .1 .0 ∙ c .before .before .before .before .before .before .before .before .before .before .before .before .before .before .before .before .before .before .before .before .mark .kept .0
+same-length c =
+    let at-parse = c .before .before .before .before .before .before in
+    let at-mark = at-parse .before .before .before .before .before .before .before .before .before .before .before .before .before .before in
+    at-parse .parse .kept .1 .1 .0 ∙ at-mark .mark .kept .0
 
 same-length-2 : tie.Need-same-length-2
-same-length-2 c = c .before .before .before .before .before .before .parse .kept .1 .1 .1 .0 ∙ c .before .before .before .before .before .before .before .before .before .before .before .before .before .before .before .before .mark2 .kept .0
+same-length-2 c =
+    let at-parse = c .before .before .before .before .before .before in
+    let at-mark2 = at-parse .before .before .before .before .before .before .before .before .before .before in
+    at-parse .parse .kept .1 .1 .1 .0 ∙ at-mark2 .mark2 .kept .0
 
 same-length-3 : tie.Need-same-length-3
-same-length-3 c = c .before .before .before .before .before .before .parse .kept .1 .1 .1 .1 .0 ∙ c .before .before .before .before .before .before .before .before .before .before .before .before .mark3 .kept .0
+same-length-3 c =
+    let at-parse = c .before .before .before .before .before .before in
+    let at-mark3 = at-parse .before .before .before .before .before .before in
+    at-parse .parse .kept .1 .1 .1 .1 .0 ∙ at-mark3 .mark3 .kept .0
 
 returns : tie.Need-returns
 returns c = tt

@@ -1,11 +1,11 @@
 // How the recorded answers of the Rust parser (data/parsed of crate cases) lie in the data.
-use crate::is_recorded;
-use crate::number;
-use crate::print_number;
+use crate::lexed::is_recorded;
+use crate::lexed::number;
+use crate::lexed::print_number;
 
 // Where a record's parts lie in the data: the text, the words of nodes, values and reports, one behind the other, and the
 // tries.
-pub struct Tree {
+pub(crate) struct Tree {
     pub text: usize,
     pub text_end: usize,
     pub nodes: usize,
@@ -16,13 +16,13 @@ pub struct Tree {
     pub next: usize,
 }
 
-pub enum Found {
+pub(crate) enum Found {
     At(Tree),
     Cut,
 }
 
 // How many words are lent, and the refusal's number and place; 0 and 0 where it is done.
-pub struct Try {
+pub(crate) struct Try {
     pub nodes: usize,
     pub values: usize,
     pub reports: usize,
@@ -31,13 +31,13 @@ pub struct Try {
 }
 
 // The most bytes of data that are read.
-pub const LONGEST_DATA: usize = 196608;
+pub(crate) const LONGEST_DATA: usize = 196608;
 
 // The bytes of a try: five numbers.
-pub const TRY_BYTES: usize = 20;
+pub(crate) const TRY_BYTES: usize = 20;
 
 // A number of the data; 0 where the data end before it.
-pub fn number_at(file: &[u8], at: usize) -> u32 {
+pub(crate) fn number_at(file: &[u8], at: usize) -> u32 {
     let size = file.len();
     if size < 4 {
         return 0;
@@ -49,7 +49,7 @@ pub fn number_at(file: &[u8], at: usize) -> u32 {
 }
 
 // A part of the data; none where its ends fall or pass the data.
-pub fn part(file: &[u8], start: usize, end: usize) -> &[u8] {
+pub(crate) fn part(file: &[u8], start: usize, end: usize) -> &[u8] {
     if end < start {
         return &file[..0];
     }
@@ -60,7 +60,7 @@ pub fn part(file: &[u8], start: usize, end: usize) -> &[u8] {
 }
 
 // The record at a place, or that the data end inside it.
-pub fn tree_at(file: &[u8], at: usize) -> Found {
+pub(crate) fn tree_at(file: &[u8], at: usize) -> Found {
     let size = file.len();
     // So that no sum wraps.
     if LONGEST_DATA < size {
@@ -98,7 +98,7 @@ pub fn tree_at(file: &[u8], at: usize) -> Found {
 }
 
 // The try at a place; where the data end before it, one that lends nothing and is done: no text is read so.
-pub fn try_at(file: &[u8], at: usize) -> Try {
+pub(crate) fn try_at(file: &[u8], at: usize) -> Try {
     // So that no sum wraps.
     if LONGEST_DATA < at {
         return Try {
@@ -123,7 +123,7 @@ pub fn try_at(file: &[u8], at: usize) -> Try {
     }
 }
 
-pub fn bytes_between(start: usize, end: usize) -> usize {
+pub(crate) fn bytes_between(start: usize, end: usize) -> usize {
     if end < start {
         return 0;
     }
@@ -131,7 +131,7 @@ pub fn bytes_between(start: usize, end: usize) -> usize {
 }
 
 // Whether so many nodes, value words and reports are recorded.
-pub fn are_counts(tree: Tree, n: usize, v: usize, r: usize) -> bool {
+pub(crate) fn are_counts(tree: Tree, n: usize, v: usize, r: usize) -> bool {
     if n != bytes_between(tree.nodes, tree.values) / 20 {
         return false;
     }
@@ -142,7 +142,7 @@ pub fn are_counts(tree: Tree, n: usize, v: usize, r: usize) -> bool {
 }
 
 // Whether all words are the recorded ones, and 0 behind those.
-pub fn are_recorded(
+pub(crate) fn are_recorded(
     file: &[u8],
     tree: Tree,
     nodes: &[u32],
@@ -159,7 +159,7 @@ pub fn are_recorded(
 }
 
 // Whether every word is 0.
-pub fn are_zero(nodes: &[u32], values: &[u32], reports: &[u32]) -> bool {
+pub(crate) fn are_zero(nodes: &[u32], values: &[u32], reports: &[u32]) -> bool {
     if !is_recorded(nodes, &[]) {
         return false;
     }
@@ -169,15 +169,15 @@ pub fn are_zero(nodes: &[u32], values: &[u32], reports: &[u32]) -> bool {
     is_recorded(reports, &[])
 }
 
-pub fn print_differs(n: usize) {
+pub(crate) fn print_differs(n: usize) {
     print_number(b"tree ", n, b" differs\n");
 }
 
-pub fn print_cut(n: usize) {
+pub(crate) fn print_cut(n: usize) {
     print_number(b"data cut at tree ", n, b"\n");
 }
 
-pub fn print_end(size: usize, at: usize, trees: usize, differences: usize) {
+pub(crate) fn print_end(size: usize, at: usize, trees: usize, differences: usize) {
     if at != size {
         print_number(b"data go on after tree ", trees, b"\n");
     }

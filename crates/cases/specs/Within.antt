@@ -1,8 +1,8 @@
 -- That a record's parts lie within the data.
 use Prim.Native.Nat.{ℕ, _≤_}
-use Rattle.records.specs.declared.Record.{Record}
-use Rattle.records.specs.declared.Found.{Found}
-use Rattle.records.specs.declared.Found.the-variants.{At, Cut}
+use Rattle.cases.specs.declared.lexed.Record.{Record}
+use Rattle.cases.specs.declared.lexed.Found.{Found}
+use Rattle.cases.specs.declared.lexed.Found.the-variants.{At, Cut}
 
 -- The text from `start` to `end` and the words from `words` to `next`, in data of `size` bytes.
 pub record Within (r : Record) (size : ℕ) : Type 0 where

@@ -2,8 +2,8 @@
 use Prim.Native.Nat.{_-_}
 use lib.ListN.{length}
 use borrow.Author.Needs.{needs}
-use Rattle.records.proofs.is_recorded.Statement.{statement}
-use Rattle.records.proofs.is_recorded.Tie as tie
+use Rattle.cases.proofs.lexed.is_recorded.Statement.{statement}
+use Rattle.cases.proofs.lexed.is_recorded.Tie as tie
 
 abbrev Inv-loop : tie.InvT-loop
 Inv-loop words recorded i₀ i = Unit {0}

@@ -4,8 +4,8 @@ use Prim.Native.Nat.{_-_}
 use lib.ListN.{length, length-set}
 use borrow.Author.Needs.{needs}
 use native.Mathlib.Omega.{arith}
-use Rattle.records.proofs.mark.Statement.{statement}
-use Rattle.records.proofs.mark.Tie as tie
+use Rattle.cases.proofs.lexed.mark.Statement.{statement}
+use Rattle.cases.proofs.lexed.mark.Tie as tie
 
 abbrev Inv-loop : tie.InvT-loop
 Inv-loop words₀ i₀ words i = length words ≡ length words₀

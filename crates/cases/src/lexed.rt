@@ -2,10 +2,7 @@
 // otherwise, and how the parser's lie in the data.
 ghost use Prim.Native.Nat.{_+_, _*_, _≤_, _<_};
 ghost use lib.ListN.{length};
-ghost use Rattle.records.specs.Within.{Within, FoundWithin};
-
-pub mod trees;
-
+ghost use Rattle.cases.specs.Within.{Within, FoundWithin};
 use lexer::Lexed;
 use libc::STDOUT_FILENO;
 use words::refusal;
@@ -44,7 +41,7 @@ fn wide(x: u8) -> u32
 }
 
 // A number of the data: 4 bytes, least first.
-pub fn number(file: &[u8], at: usize) -> u32
+pub(crate) fn number(file: &[u8], at: usize) -> u32
     requires { ⌜ at + 4 ≤ length (now file) ⌝ }
 {
     wide(file[at])
@@ -89,7 +86,7 @@ fn record_at(file: &[u8], at: usize) -> Found
     })
 }
 
-pub fn mark(words: &mut [u32]) {
+pub(crate) fn mark(words: &mut [u32]) {
     let mut i = 0;
     while i < words.len() {
         words[i] = PATTERN;
@@ -107,7 +104,7 @@ fn word_at(recorded: &[u8], i: usize) -> u32 {
 }
 
 // Whether the words are the recorded ones, and 0 behind those.
-pub fn is_recorded(words: &[u32], recorded: &[u8]) -> bool {
+pub(crate) fn is_recorded(words: &[u32], recorded: &[u8]) -> bool {
     let mut i = 0;
     while i < words.len() {
         if words[i] != word_at(recorded, i) {
@@ -195,7 +192,7 @@ fn replay_record(file: &[u8], at: usize, tokens: &mut [u32]) -> Turn {
     }
 }
 
-pub fn print_number(before: &[u8], n: usize, after: &[u8]) {
+pub(crate) fn print_number(before: &[u8], n: usize, after: &[u8]) {
     io::write_all(STDOUT_FILENO, before);
     io::print_decimal(STDOUT_FILENO, n as u64);
     io::write_all(STDOUT_FILENO, after);
@@ -252,7 +249,7 @@ fn replay_all(file: &[u8]) {
     replay(file, &mut tokens, number(file, 0));
 }
 
-pub fn replay_lexed() {
+pub(crate) fn replay_lexed() {
     let path = b"lexed";
     let fd = os::open_read(path);
     if fd < 0 {

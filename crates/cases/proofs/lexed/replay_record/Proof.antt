@@ -1,10 +1,10 @@
 -- `replay_record` is safe: the record that was found lies within the file.
 use mathlib.Core.Path.{subst}
 use lib.ListN.{length}
-use Rattle.records.specs.Within.{FoundWithin}
+use Rattle.cases.specs.Within.{FoundWithin}
 use borrow.Author.Needs.{needs}
-use Rattle.records.proofs.replay_record.Statement.{statement}
-use Rattle.records.proofs.replay_record.Tie as tie
+use Rattle.cases.proofs.lexed.replay_record.Statement.{statement}
+use Rattle.cases.proofs.lexed.replay_record.Tie as tie
 
 record-at-requires : tie.Need-record-at-requires
 record-at-requires c κs = search needs
@@ -14,8 +14,11 @@ enum-known-r c = search needs
 
 is-record-same-requires : tie.Need-is-record-same-requires
 is-record-same-requires c κs =
-    subst (λ f. FoundWithin f (length (c .before .before .before .before .before .before .before .args .file .now))) (c .before .before .r .given .1)
-    (c .before .before .before .before .record-at .ensures)
+    let at-r = c .before .before in
+    let at-record-at = at-r .before .before in
+    let at-args = at-record-at .before .before .before in
+    subst (λ f. FoundWithin f (length (at-args .args .file .now))) (at-r .r .given .1)
+    (at-record-at .record-at .ensures)
 
 enum-told : tie.Need-enum-told
 enum-told c = search needs
