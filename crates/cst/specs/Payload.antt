@@ -8,7 +8,7 @@ use lib.Dec.{eqb}
 use Rattle.words.specs.Words.{pack, nodeHead}
 use Rattle.definition.specs.declared.State.{State}
 use Rattle.definition.specs.declared.Unfinished.{Unfinished}
-use Rattle.definition.specs.Prog.{Prog, Memory, Out, refused, bind, eval, allocated}
+use Rattle.definition.specs.Prog.{Prog, Memory, Out, refused, eval, allocated}
 use Rattle.definition.specs.Nodes.{allocNodeFrom, allocLastTokenAsNode}
 use Rattle.reading.specs.declared.Reading.{Reading}
 use Rattle.reading.specs.Does.{Does, run}

@@ -7,8 +7,8 @@ use Rattle.words.specs.Node
 use Rattle.words.specs.Flag
 use Rattle.definition.specs.declared.Mode.the-variants.{AllowAll}
 use Rattle.definition.specs.declared.Unfinished.{Unfinished}
-use Rattle.definition.specs.Prog.{Prog, Act, give, _>>=_, _>>_, if_then_else_, position, enterBlock, eval}
-use Rattle.definition.specs.Tokens.{constDefExprRecovery, eat, ifEat_then_else_, skipUntilDeclStart, expectCheckRecovery}
+use Rattle.definition.specs.Prog.{Prog, Act, give, _>>=_, _>>_, position, enterBlock, eval}
+use Rattle.definition.specs.Tokens.{constDefExprRecovery, ifEat_then_else_, skipUntilDeclStart, expectCheckRecovery}
 use Rattle.definition.specs.Nodes.{allocNodeFrom, closeNode, updateKind, pushChild, expectIdent}
 use Rattle.definition.specs.Expressions.{parseExpr}
 use Rattle.definition.specs.Declarations.{parseImportDecl, parseConstDecl, noDecl, skipUnlessEof, parseDecl}

@@ -10,7 +10,7 @@ use Rattle.words.specs.Report
 use Rattle.definition.specs.declared.Mode.the-variants.{AllowAll}
 use Rattle.definition.specs.declared.Unfinished.{Unfinished}
 use Rattle.definition.specs.Prog.{Turn, again, stop, Prog, Act, give, _>>=_, _>>_, loop, if_then_else_, when, peek, pass, position, here, before, emit, enterBlock}
-use Rattle.definition.specs.Tokens.{constDefExprRecovery, check, eat, ifEat_then_else_, ifCheck_then_else_, eof, emitUnexpected, skipUntilDeclStart, expect, expectCheckRecovery, parseDelimited}
+use Rattle.definition.specs.Tokens.{constDefExprRecovery, check, ifEat_then_else_, ifCheck_then_else_, eof, emitUnexpected, skipUntilDeclStart, expect, expectCheckRecovery, parseDelimited}
 use Rattle.definition.specs.Nodes.{allocNodeFrom, allocNode, closeNode, updateKind, pushChild, flag, expectIdent}
 use Rattle.definition.specs.Expressions.{parseExpr}
 

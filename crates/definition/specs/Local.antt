@@ -24,17 +24,15 @@ use Rattle.literals.specs.Spelling.{wordAt, tokenStart, alike, firstFrom, first
 use Rattle.definition.specs.declared.Cursor.{Cursor}
 use Rattle.definition.specs.declared.State.{State}
 use Rattle.definition.specs.declared.Mode.{Mode}
-use Rattle.definition.specs.declared.Unfinished.{Unfinished}
 use Rattle.definition.specs.Prog.{Turn, again, stop, Prog, Then, Branch, intern, Memory, Out, done, refused, bind, withCursor, advanced, reported, isMarked, markedHere, lastNode, allocated, wordOf, stored, linked, valued, iter, Readers, kindAt, passed, skipped, eval, tower}
 use Rattle.definition.specs.Expressions.{tryParseExprMinBp}
 use Rattle.definition.specs.Statements.{parseBlock}
-use Rattle.definition.specs.Declarations.{declTurn}
 use Rattle.definition.specs.Parse.{maxDepth, readers, lastToken, tokenLimit, start, zeros, parsedTo, parsedWithin, parsed}
 use Rattle.definition.specs.Mono.{After, ran, halted, Mono, Steady, mono, steady, same, advanced-later, passed-later, skipped-later, iter-later, turn}
 use Rattle.definition.specs.Progress as Progress
 use Rattle.definition.specs.Progress.{Holds, yields, halts, both, Forward, forward}
 use Rattle.definition.specs.Bound.{bound-enough}
-use Rattle.definition.specs.Proper.{Proper, proper-give, thens, branches, loops, names, names-later, proper-peek, proper-pass, proper-position, proper-here, proper-before, proper-spelling, proper-marked, proper-emit, proper-emitAndMark, proper-alloc, proper-closeAt, proper-closeAtStart, proper-setKind, proper-link, proper-kindOf, proper-value, proper-enterExpr, proper-enterBlock, Just, passes, stays, tryParseExprMinBp-proper, parseBlock-proper, declTurn-proper, parseFile-proper}
+use Rattle.definition.specs.Proper.{Proper, proper-give, thens, branches, loops, names, names-later, proper-peek, proper-pass, proper-position, proper-here, proper-before, proper-spelling, proper-marked, proper-emit, proper-emitAndMark, proper-alloc, proper-closeAt, proper-closeAtStart, proper-setKind, proper-link, proper-kindOf, proper-value, proper-enterExpr, proper-enterBlock, Just, passes, stays, tryParseExprMinBp-proper, parseBlock-proper, parseFile-proper}
 
 -- How far an outcome has looked: its cursor, or a refusal's place.
 abbrev pub reach : {A : Type 0} → Out A → ℕ
@@ -313,14 +311,6 @@ module _ (p : ℕ) (text tokens : List ℕ) (end : ℕ) (text′ tokens′ : Lis
   -- Every program that is proper, at every depth.
   pub reads-alike : {A : Type 0} {q : Prog A} → Proper q → (bound depth : ℕ) → Twins (eval text tokens bound (readers text tokens bound depth) q) (eval text′ tokens′ bound (readers text′ tokens′ bound depth) q)
   reads-alike x bound depth = local bound _ _ (steady text tokens bound tryParseExprMinBp parseBlock depth) (forward text tokens bound depth) (alike-at bound depth) x
-
-  -- The file's first declarations.
-  pub declarations-alike : (bound count : ℕ) (file : Unfinished)
-      → Twins
-      (iter (λ x t n. eval text tokens bound (readers text tokens bound maxDepth) (declTurn x) t n) count file)
-      (iter (λ x t n. eval text′ tokens′ bound (readers text′ tokens′ bound maxDepth) (declTurn x) t n) count file)
-  declarations-alike bound count file =
-      iter-twin _ _ count (λ x. mono text tokens bound _ (steady text tokens bound tryParseExprMinBp parseBlock maxDepth) (declTurn x)) (λ x. reads-alike (declTurn-proper x) bound maxDepth) file
 
 -- ---- lists that begin alike
 

@@ -3,11 +3,11 @@ use mathlib.Core.Path.{_≡_, refl}
 use mathlib.Core.Bool.{Bool, true, false, cond, _&&_}
 use mathlib.Core.Option.{Option}
 use mathlib.Core.List.{List}
-use Prim.Native.Nat.{ℕ, zero, suc, _+_, _-_, _*_, _≤_, _<_}
+use Prim.Native.Nat.{ℕ, zero, suc, _+_, _*_, _≤_}
 use native.Mathlib.Omega.{arith}
 use borrow.Author.Tests.{ltb-true}
 use lib.Dec.{eqb, ltb, leb}
-use lib.ListN.{length, getD, set, length-set}
+use lib.ListN.{length, set, length-set}
 use lib.Seq.{sets, length-sets}
 use Rattle.words.specs.Token.{isTrivia, lexError}
 use Rattle.words.specs.declared.token.LexError.{LexError}
@@ -17,10 +17,9 @@ use Rattle.words.specs.Words
 use Rattle.words.specs.Words.{nodeWidth, reportWidth}
 use Rattle.literals.specs.declared.Span.{Span}
 use Rattle.literals.specs.Spelling as Source
-use Rattle.definition.specs.declared.Cursor.{Cursor}
 use Rattle.definition.specs.declared.State.{State}
 use Rattle.definition.specs.declared.Mode.{Mode}
-use Rattle.definition.specs.Prog.{Turn, again, stop, Prog, Give, Then, Branch, Loop, peek, pass, position, here, before, spelling, intern, marked, emit, emitAndMark, alloc, closeAt, closeAtStart, setKind, link, kindOf, value, enterExpr, enterBlock, Memory, memory, Out, done, refused, bind, withCursor, withMark, withNodes, withValues, withReports, advanced, reported, isMarked, markedHere, lastNode, allocated, wordOf, stored, linked, childWord, nextWord, valued, iter, Readers, kindAt, passed, skipped, skipTrivia, eval, tower}
+use Rattle.definition.specs.Prog.{Turn, again, stop, Prog, Give, Then, Branch, Loop, peek, pass, position, here, before, spelling, intern, marked, emit, emitAndMark, alloc, closeAt, closeAtStart, setKind, link, kindOf, value, enterExpr, enterBlock, Memory, memory, Out, done, refused, bind, withCursor, withNodes, withValues, withReports, advanced, reported, isMarked, markedHere, lastNode, allocated, stored, linked, childWord, nextWord, valued, iter, Readers, kindAt, passed, skipped, eval, tower}
 
 -- From one state and its words to a later one.
 pub record Later (s : State) (m : Memory) (t : State) (n : Memory) : Type 0 where

@@ -10,8 +10,8 @@ use Rattle.words.specs.Node
 use Rattle.words.specs.Report
 use Rattle.literals.specs.Numbers.{digits, numberValue}
 use Rattle.definition.specs.declared.Unfinished.{Unfinished}
-use Rattle.definition.specs.Prog.{Prog, Act, give, _>>=_, _>>_, if_then_else_, when, peek, pass, position, here, spelling, intern, marked, emitAndMark, alloc, closeAt, setKind, link, value}
-use Rattle.definition.specs.Tokens.{check, eat, ifEat_then_else_, ifCheck_then_else_, emitUnexpected}
+use Rattle.definition.specs.Prog.{Prog, Act, give, _>>=_, _>>_, when, peek, pass, position, here, spelling, intern, marked, emitAndMark, alloc, closeAt, setKind, link, value}
+use Rattle.definition.specs.Tokens.{ifEat_then_else_, ifCheck_then_else_, emitUnexpected}
 
 -- A `NodeKind` is two numbers here: the kind and its payload.
 unfoldable pub allocNodeFrom : ℕ → ℕ → ℕ → Prog Unfinished

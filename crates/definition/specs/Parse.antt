@@ -5,12 +5,12 @@ use lib.ListN.{length, replicate}
 use Rattle.words.specs.Answer.{Answer}
 use Rattle.words.specs.Answer as Answer
 use Rattle.definition.specs.declared.State.{State}
-use Rattle.definition.specs.Prog.{Prog, Memory, memory, Out, done, refused, Readers, eval, tower}
+use Rattle.definition.specs.Prog.{Memory, memory, Out, done, refused, Readers, eval, tower}
 use Rattle.definition.specs.Expressions.{tryParseExprMinBp}
 use Rattle.definition.specs.Statements.{parseBlock}
 use Rattle.definition.specs.Declarations.{parseFile}
 
--- "Depth is the number of `try_parse_expr_min_bp` and `parse_block` readings open at one moment; entering the 257th is refusal 3" (01).
+-- "Depth is the number of `try_parse_expr_min_bp` and `parse_block` readings open at one moment ..; entering the 257th is refusal 3" (01, Refusals).
 abbrev pub maxDepth : ℕ
 maxDepth = 256
 
@@ -38,7 +38,7 @@ pub record Parsed : Type 0 where
 abbrev pub zeros : ℕ → ℕ → ℕ → Memory
 zeros nodes values reports = memory (replicate nodes 0) (replicate values 0) (replicate reports 0)
 
--- "Success returns the counts of nodes, value words and reports; the rest of each slice is 0." "A refusal returns number and place; output
+-- "Success returns the counts of .. nodes, value words and reports ..; the rest of each slice is 0." "A refusal returns number and place; output
 -- slices are all 0" (01).
 unfoldable pub parsedTo : Memory → Out ℕ → Parsed
 parsedTo blank (done file s m) = record { answer = Answer.done (s .nodes ∷ s .values ∷ s .reports ∷ []); words = m }

@@ -143,7 +143,7 @@ markedHere s = withMark (s .cursor .at + 1) s
 abbrev pub lastNode : ℕ
 lastNode = 4294967295
 
--- `alloc_node_from`: "Node, five words" (01, Words that are lent); "5 nodes don't fit (token number)" (01, Refusals).
+-- `alloc_node_from`: "Node, five words" (01, Words that are lent); "5 nodes, .. don't fit (token number)" (01, Refusals).
 unfoldable pub allocated : ℕ → ℕ → ℕ → State → Memory → Out ℕ
 allocated start kind payload s m =
     elim (ltb (s .nodes) lastNode && leb (nodeWidth * s .nodes + nodeWidth) (length (m .nodes))) [
@@ -183,7 +183,7 @@ stored n word w s m = cond (ltb n (s .nodes)) (memory (set (m .nodes) (nodeWidth
 unfoldable pub linked : ℕ → ℕ → ℕ → State → Memory → Memory
 linked parent last child s m = cond (eqb last 0) (stored parent childWord child s m) (stored last nextWord child s m)
 
--- "6 values don't fit (token number)" (01, Refusals).
+-- "6 values, .. don't fit (token number)" (01, Refusals).
 unfoldable pub valued : List ℕ → State → Memory → Out ℕ
 valued ws s m =
     elim (leb (s .values + length ws) (length (m .values))) [
@@ -255,7 +255,7 @@ module _ (text tokens : List ℕ) where
     eval (enterExpr mode min) s m = r .expr mode min s m
     eval (enterBlock start kind) s m = r .block start kind s m
 
-  -- The readers where `depth` levels are left: "entering the 257th is refusal 3", "the token number is where the cursor stands at that
+  -- The readers where `depth` levels are left: "entering the 257th is refusal 3", "The token number .. is where the cursor stands at that
   -- step; entering comes before any blank is skipped" (01, Refusals).
   module _ (bound : ℕ) (exprProgram : Mode → ℕ → Prog (Option ℕ)) (blockProgram : ℕ → ℕ → Prog ℕ) where
     unfoldable pub tower : ℕ → Readers

@@ -1,11 +1,11 @@
 -- Programs that pass a token: what they have to answer, or to find at the cursor, for the cursor to have moved.
 use mathlib.Core.Path.{_≡_, refl, sym, _∙_, ap}
-use mathlib.Core.Bool.{Bool, true, false, cond, not, _&&_, _||_}
+use mathlib.Core.Bool.{Bool, true, false, not, _&&_, _||_}
 use mathlib.Core.Option.{Option, none, some}
 use mathlib.Core.List.{List, [], _∷_}
 use Prim.Native.Nat.{ℕ, zero, suc, _+_, _-_, _*_, _≤_, _<_}
 use native.Mathlib.Omega.{arith}
-use borrow.Author.Tests.{ltb-true, ltb-false, lt-ltb, le-ltb, eqb-true, eqb-false, eq-eqb, ne-eqb}
+use borrow.Author.Tests.{ltb-true, ltb-false, lt-ltb, le-ltb, eqb-true, eq-eqb}
 use lib.Dec.{T, eqb, ltb, leb}
 use lib.ListN.{length, drop}
 use Rattle.words.specs.Token
@@ -19,19 +19,19 @@ use Rattle.literals.specs.Spelling as Source
 use Rattle.definition.specs.declared.Cursor.{Cursor}
 use Rattle.definition.specs.declared.State.{State}
 use Rattle.definition.specs.declared.Mode.{Mode}
-use Rattle.definition.specs.Prog.{Turn, again, stop, Prog, Give, Then, Branch, Loop, peek, pass, position, here, before, spelling, intern, marked, emit, emitAndMark, alloc, closeAt, closeAtStart, setKind, link, kindOf, value, enterExpr, enterBlock, Memory, memory, Out, done, refused, bind, withCursor, advanced, reported, isMarked, markedHere, lastNode, allocated, valued, iter, Readers, kindAt, passed, skipped, skipTrivia, eval, tower}
+use Rattle.definition.specs.Prog.{Turn, again, stop, Prog, Give, Then, Branch, Loop, peek, pass, position, here, spelling, marked, emit, emitAndMark, alloc, link, value, enterExpr, Memory, Out, done, refused, bind, withCursor, advanced, reported, isMarked, markedHere, lastNode, allocated, iter, Readers, kindAt, passed, skipped, skipTrivia, eval, tower}
 use Rattle.words.specs.Node
 use Rattle.literals.specs.Numbers.{digits, numberValue}
 use Rattle.literals.specs.Strings.{Event, byte, report, stringValue}
-use Rattle.definition.specs.declared.Mode.the-variants.{AllowAll, NoPostFixCurlyBrace}
+use Rattle.definition.specs.declared.Mode.the-variants.{AllowAll}
 use Rattle.definition.specs.declared.Unfinished.{Unfinished}
 use Rattle.definition.specs.Tokens.{contains, check, eat, eof, emitUnexpected, skipTurn, skipUntilDeclStart, expect, Delimited, delimitedTurn, parseDelimited}
 use Rattle.definition.specs.Nodes.{allocNodeFrom, allocNode, pushChild, closeNodeAt, radixOf, Radix, tryParseNumLiteral, tryParseIdent, tryParseBuiltinName}
 use Rattle.definition.specs.Strings.{StringBuf, emitEvents, decodeToken, stringTurn, tryParseStringLiteral}
-use Rattle.definition.specs.Expressions.{Binary, binaries, binaryOf, checkBinaryOp, unaryOf, eatUnary, tryParseExpr, blockHere, ElseIfs, elseTurn, eats, checks, tryParseConditional, armTurn, tryParseMatch, parseMethodDef, parseStructField, Members, fieldTurn, methodTurn, noMemberTurn, memberTurn, tupleTurn, _orElse_, numLiteral, tryParseStandaloneExpr, callExpr, structLit, binaryExpr, binaryStep, onlyIf, exprTurn, unaryExpr, tryParseExprMinBp}
+use Rattle.definition.specs.Expressions.{Binary, binaries, binaryOf, checkBinaryOp, unaryOf, eatUnary, tryParseExpr, blockHere, ElseIfs, elseTurn, eats, checks, tryParseConditional, armTurn, tryParseMatch, parseMethodDef, parseStructField, Members, fieldTurn, methodTurn, noMemberTurn, memberTurn, tupleTurn, _orElse_, numLiteral, tryParseStandaloneExpr, callExpr, structLit, binaryExpr, binaryStep, onlyIf, exprTurn, tryParseExprMinBp}
 use Rattle.definition.specs.Statements.{StmtResult, statement, endExprOrStmt, endExpr, nothing, tryParseWhile, exprStmt, tryParseStmt, Body, stmtTurn, parseBlock}
 use Rattle.definition.specs.Declarations.{pathTurn, ImportSoFar, importTurn, noDecl, parseDecl, declTurn}
-use Rattle.definition.specs.Mono.{Later, After, ran, halted, Mono, Steady, mono, steady}
+use Rattle.definition.specs.Mono.{After, ran, halted, Steady, mono, steady}
 
 -- What holds of an answer and the state after it; a refusal has neither.
 pub data Holds {A : Type 0} (Q : A → State → Type 0) : Out A → Type 0 where
@@ -195,9 +195,6 @@ module _ (text tokens : List ℕ) where
               (λ y. let z = q .1 in weaken (λ b u g w. let v = g w in omega arith) (h a y .goes t n)));
         }
 
-    pub moves-first : {A B : Type 0} {G : B → Bool} {p : Prog A} {f : A → Prog B} → Moves always p → Moves G (Then p f)
-    moves-first x = moves-then always x (λ a y. absurd y)
-
     pub moves-last : {A B : Type 0} {G : B → Bool} {p : Prog A} {f : A → Prog B} → ((a : A) → Moves G (f a)) → Moves G (Then p f)
     moves-last {p = p} h = moves-then (λ _. false) (never p) (λ a _. h a)
 
@@ -258,10 +255,6 @@ module _ (text tokens : List ℕ) where
               let z = q .1 in
               weaken (λ b u g w. let v = g w in omega arith) (h k .goes t n (q .0 .0) (sym (q .0 .1))));
         }
-
-    pub at-peek : {B : Type 0} {K : ℕ → Type 0} {G : B → Bool} {f : ℕ → Prog B} → ((k : ℕ) → K k → MovesAt (λ j. j ≡ k) G (f k)) → MovesAt K G (Then peek f)
-    unfolding eval
-    at-peek h = record { goes = λ s m y k. rw (peeks-at s m y) (h (kind s) k .goes s m y refl) }
 
     pub at-pass : {K : ℕ → Type 0} → ((k : ℕ) → K k → T (not (eqb k Token.Eof))) → MovesAt K always pass
     unfolding eval

@@ -41,7 +41,7 @@ stringTurn b = do
       else if eqb token Token.MultilineStringError || eqb token Token.UnclosedStringError then decodeToken b []
       else give (stop b)
 
--- "Neighbouring strings, trivia between them, make one literal" (01, strings.rs). "The value comes before the node."
+-- "Neighbouring strings, trivia between them, make one literal" (01, strings.rs). The value comes before the node.
 unfoldable pub tryParseStringLiteral : Prog (Option ℕ)
 tryParseStringLiteral = do
   start ← skipTriviaStart

@@ -1,12 +1,11 @@
 -- The parts of the readers of names, and the law of `intern`.
-use mathlib.Core.Path.{refl}
 use mathlib.Core.Bool.{not}
 use mathlib.Core.List.{List}
 use Prim.Native.Nat.{ℕ, pred}
 use Rattle.words.specs.Token
 use Rattle.words.specs.Node
 use Rattle.words.specs.Report
-use Rattle.definition.specs.Prog.{Prog, Act, _>>=_, _>>_, if_then_else_, when, Memory, eval, pass, here, intern, marked, emitAndMark}
+use Rattle.definition.specs.Prog.{Prog, Act, _>>=_, _>>_, when, Memory, eval, pass, here, intern, marked, emitAndMark}
 use Rattle.definition.specs.Tokens.{ifCheck_then_else_, emitUnexpected}
 use Rattle.definition.specs.Nodes.{allocLastTokenAsNode, errorNode}
 use Rattle.reading.specs.declared.Reading.{Reading}

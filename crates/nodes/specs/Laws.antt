@@ -1,7 +1,7 @@
 -- Laws of the commands on nodes: what each does, by case.
 use mathlib.Core.Path.{_≡_, refl, sym, _∙_, ap}
-use mathlib.Core.List.{List, [], _∷_}
-use mathlib.Core.Bool.{Bool, true, false, cond, _&&_}
+use mathlib.Core.List.{List, []}
+use mathlib.Core.Bool.{Bool, true, false, cond}
 use Prim.Native.Nat.{ℕ, _+_, _*_, _≤_, _<_}
 use native.Mathlib.Omega.{arith}
 use native.Mathlib.Numerals.{towards-suc}
@@ -13,7 +13,7 @@ use Rattle.words.specs.Refusal
 use Rattle.words.specs.declared.node.Node.{Node}
 use Rattle.words.specs.Words.{nodeHead, nodeKind, nodeWidth, nodeWords}
 use Rattle.definition.specs.declared.State.{State}
-use Rattle.definition.specs.Prog.{Prog, Act, alloc, closeAt, closeAtStart, setKind, link, kindOf, Memory, memory, Out, done, refused, eval}
+use Rattle.definition.specs.Prog.{Prog, Act, alloc, closeAt, closeAtStart, setKind, link, kindOf, Memory, memory, done, refused, eval}
 use Rattle.definition.specs.Prog.{allocated, lastNode, withNodes, wordOf, stored, linked, headWord, firstWord, endWord, nextWord, childWord}
 use Rattle.reading.specs.declared.Reading.{Reading}
 use Rattle.reading.specs.Does.{Does, run, refusedAt, goes, halts}

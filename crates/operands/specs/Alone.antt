@@ -36,9 +36,6 @@ abbrev memoryOf : {A : Type 0} → Memory → Out A → Memory
 memoryOf n (done a s m) = m
 memoryOf n (refused number place) = n
 
-alone-done : {A : Type 0} (a : A) → Alone (λ s m. done a s m)
-alone-done a s ns vs lent rs = refl
-
 module _ {A B : Type 0} (f : State → Memory → Out A) (k : A → State → Memory → Out B) (p : Alone f) (q : (a : A) → Alone (k a)) where
   alone-bind : Alone (λ s m. bind (f s m) k)
   alone-bind s ns vs lent rs = rw (p s ns vs lent rs) (go (f s (memory ns vs rs)) (p s ns vs vs rs))

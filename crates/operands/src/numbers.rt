@@ -13,13 +13,13 @@ use values::Base;
 use words::token;
 
 // The offset of a value, where there is one.
-pub enum Offset {
+enum Offset {
     Some(usize),
     None,
 }
 
 // That, and where reading then stands.
-pub struct Valued {
+struct Valued {
     pub it: Offset,
     pub at: Reading,
 }

@@ -15,7 +15,7 @@ use values::strings::Decoded;
 use words::token;
 
 // String tokens so far: what they decode to, and the token number past the last one.
-pub struct Gathered {
+struct Gathered {
     pub past: Decoded,
     pub end: Maybe,
 }
@@ -119,7 +119,7 @@ fn gather(
     Gathered { past, end }
 }
 
-// The node of a string from token `start` to token `end`, whose bytes were pushed: "The value comes before the node."
+// The node of a string from token `start` to token `end`, whose bytes were pushed: the value comes before the node.
 fn string_node(
     d: u32,
     s: Decoded,

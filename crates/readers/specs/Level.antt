@@ -1,9 +1,9 @@
 -- A reading one level deeper: entering it, and where no level is left.
-use mathlib.Core.Path.{_≡_, refl, sym, _∙_, ap}
-use mathlib.Core.Bool.{Bool, true, false, cond}
+use mathlib.Core.Path.{_≡_, refl}
+use mathlib.Core.Bool.{Bool, true, false}
 use mathlib.Core.Option.{Option}
 use mathlib.Core.List.{List}
-use Prim.Native.Nat.{ℕ, zero, suc, _-_, _<_}
+use Prim.Native.Nat.{ℕ, zero, suc, _-_}
 use native.Mathlib.Omega.{arith}
 use native.Mathlib.Numerals.{sub-one}
 use borrow.Author.Tests.{eqb-true, eqb-false}
@@ -11,11 +11,11 @@ use lib.Dec.{eqb}
 use Rattle.words.specs.Refusal
 use Rattle.definition.specs.declared.State.{State}
 use Rattle.definition.specs.declared.Mode.{Mode}
-use Rattle.definition.specs.Prog.{Prog, Memory, Out, done, refused, eval, tower, enterExpr, enterBlock}
+use Rattle.definition.specs.Prog.{Prog, Memory, refused, eval, tower, enterExpr, enterBlock}
 use Rattle.definition.specs.Expressions.{tryParseExprMinBp}
 use Rattle.definition.specs.Statements.{parseBlock}
 use Rattle.reading.specs.declared.Reading.{Reading}
-use Rattle.reading.specs.Does.{Does, run, refusedAt, stays, halts}
+use Rattle.reading.specs.Does.{Does, run, stays, halts}
 use Rattle.readers.specs.Readers.{tooDeep}
 
 module _ {text tokens : List ℕ} {d : ℕ} {r : Reading} {m : Memory} where

@@ -1,15 +1,15 @@
 -- What the readers' contracts say beside the definition's programs.
-use mathlib.Core.Bool.{Bool, true, false, cond}
-use mathlib.Core.Option.{Option, none}
+use mathlib.Core.Bool.{cond}
+use mathlib.Core.Option.{Option}
 use Prim.Native.Nat.{ℕ}
 use lib.Dec.{eqb}
 use Rattle.words.specs.Token
 use Rattle.words.specs.Refusal
 use Rattle.definition.specs.declared.Mode.the-variants.{AllowAll}
 use Rattle.definition.specs.declared.Unfinished.{Unfinished}
-use Rattle.definition.specs.Prog.{Turn, again, stop, Prog, give, _>>=_, _>>_, if_then_else_, position}
-use Rattle.definition.specs.Tokens.{check, eat, ifEat_then_else_, ifCheck_then_else_, expect}
-use Rattle.definition.specs.Nodes.{closeNode, pushChild}
+use Rattle.definition.specs.Prog.{Turn, Prog, _>>=_, _>>_, position}
+use Rattle.definition.specs.Tokens.{ifEat_then_else_, ifCheck_then_else_, expect}
+use Rattle.definition.specs.Nodes.{pushChild}
 use Rattle.definition.specs.Expressions.{parseExpr, blockHere, ElseIfs, fallbackArm, keyedArm, Members, fieldTurn, noMemberTurn}
 use Rattle.reading.specs.declared.Reading.{Reading}
 use Rattle.reading.specs.declared.Got.{Got}

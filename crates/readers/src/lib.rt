@@ -46,21 +46,21 @@ use words::node;
 use words::token;
 
 // The members of a struct, and whether a method was among them.
-pub struct MemberList {
+struct MemberList {
     pub body: Unfinished,
     pub seen: bool,
     pub at: Reading,
 }
 
 // The else-if branches, and the else block.
-pub struct ElseIfs {
+struct ElseIfs {
     pub list: Unfinished,
     pub last: Maybe,
     pub at: Reading,
 }
 
 // The statements of a block, and its closing expression.
-pub struct Body {
+struct Body {
     pub list: Unfinished,
     pub closing: Maybe,
     pub at: Reading,

@@ -1,6 +1,6 @@
 -- What a function of the parser does, held against a program of the definition; and the rules by which such functions,
 -- called one after the other, do what programs do one after the other.
-use mathlib.Core.Path.{_≡_, refl, sym, _∙_, ap}
+use mathlib.Core.Path.{_≡_, refl, sym, _∙_}
 use mathlib.Core.Bool.{Bool, true, false, cond}
 use mathlib.Core.List.{List}
 use Prim.Native.Nat.{ℕ, zero, suc, _+_, _-_, _≤_, _<_}
@@ -9,7 +9,7 @@ use native.Mathlib.Numerals.{sub-one}
 use borrow.Author.Tests.{eq-eqb, ne-eqb}
 use lib.Dec.{eqb}
 use Rattle.definition.specs.declared.State.{State}
-use Rattle.definition.specs.Prog.{Turn, again, stop, Prog, Give, Then, Branch, Loop, Memory, memory, Out, done, refused, bind, Readers, eval, iter}
+use Rattle.definition.specs.Prog.{Turn, again, stop, Prog, Give, Then, Branch, Loop, Memory, Out, done, refused, bind, eval, iter}
 use Rattle.definition.specs.Parse.{readers, tokenLimit}
 use Rattle.reading.specs.declared.Reading.{Reading}
 use Rattle.reading.specs.Source.{Right}
@@ -31,6 +31,8 @@ run text tokens d p s m = eval text tokens (turnsOf tokens) (readers text tokens
 
 -- A function that starts at `r` with the words `m` and answers `a`, `r′` and the words `m′` does what the program does,
 -- where `d` levels are left. A table of names behind the text must be right for that.
+-- Free are the words, the answer and the state of a reading that was refused, which `view` leaves out: every function hands such a
+-- reading on, and `parse`, which all others are called from, clears the three slices then; so its own equation has every word.
 pub record Does {A : Type 0} (text tokens : List ℕ) (d : ℕ) (p : Prog A) (r : Reading) (m : Memory) (a : A) (r′ : Reading) (m′ : Memory) : Type 0 where
   pub is : Right text tokens → view a r′ m′ ≡ from r m (run text tokens d p)
 

@@ -1,12 +1,10 @@
 -- Laws of the leaves: what a command's run is, by case.
-use mathlib.Core.Path.{_≡_, refl, sym, _∙_, ap}
-use mathlib.Core.List.{List, [], _∷_}
-use mathlib.Core.Bool.{Bool, true, false}
-use Prim.Native.Nat.{ℕ, suc, _+_, _*_, _/_, _≤_, _<_}
+use mathlib.Core.Path.{_≡_, _∙_}
+use mathlib.Core.List.{List, []}
+use Prim.Native.Nat.{ℕ, _+_, _*_, _/_, _≤_, _<_}
 use native.Mathlib.Omega.{arith}
 use native.Mathlib.Numerals.{towards-suc}
 use borrow.Author.Tests.{le-leb, lt-leb}
-use lib.Dec.{leb}
 use lib.ListN.{length, set, getD}
 use lib.Seq.{sets}
 use Rattle.words.specs.Refusal
@@ -14,7 +12,7 @@ use Rattle.words.specs.Words.{reportWidth, reportWords}
 use Rattle.literals.specs.declared.Span.{Span}
 use Rattle.literals.specs.Spelling.{span}
 use Rattle.definition.specs.declared.State.{State}
-use Rattle.definition.specs.Prog.{Prog, emit, Memory, memory, Out, done, refused, eval, reported, withReports}
+use Rattle.definition.specs.Prog.{emit, Memory, memory, done, refused, eval, reported, withReports}
 use Rattle.reading.specs.declared.Reading.{Reading}
 use Rattle.reading.specs.Source.{plain-right}
 use Rattle.reading.specs.Does.{Does, view, from, refusedAt, stays, goes, halts}

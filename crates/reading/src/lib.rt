@@ -1,6 +1,5 @@
 // What the parser's functions hand on: where reading stands, and what they answer.
 ghost use mathlib.Core.Path.{_≡_};
-ghost use Prim.Native.Nat.{_<_};
 ghost use Rattle.reading.specs.Does.{refusedAt};
 
 pub mod report;

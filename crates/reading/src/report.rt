@@ -1,6 +1,4 @@
 // Reports: the emit functions.
-ghost use mathlib.Core.Path.{_≡_};
-ghost use Prim.Native.Nat.{_<_};
 ghost use Rattle.definition.specs.Prog.{memory};
 ghost use Rattle.reading.specs.Leaves.{Reports};
 ghost use Rattle.literals.specs.Spelling.{span};

@@ -1,17 +1,16 @@
 -- Laws of the longest match: which rule it is, by the first byte of the text's rest.
-use mathlib.Core.Path.{_≡_, refl, sym, _∙_, ap, subst}
+use mathlib.Core.Path.{_≡_, refl, sym, _∙_, ap}
 use mathlib.Core.List.{List, [], _∷_, _++_, map}
-use mathlib.Core.Logic.{_⊎_, inl, inr, ⊎-elim}
 use mathlib.Core.Bool.{Bool, true, false, cond, not, _&&_, _||_, false≢true}
-use Prim.Native.Nat.{ℕ, zero, suc, _+_, _≤_, _<_}
+use Prim.Native.Nat.{ℕ, zero, suc, _≤_, _<_}
 use native.Mathlib.Omega.{arith}
-use borrow.Author.Tests.{eq-eqb, ne-eqb, lt-ltb, le-ltb, leb-true, ltb-true, ltb-false, eqb-true, eqb-false}
+use borrow.Author.Tests.{ne-eqb, lt-ltb, le-ltb, leb-true, ltb-true, ltb-false, eqb-true}
 use lib.Dec.{eqb, leb, ltb}
 use lib.ListN.{length, getD, drop, take, length-take}
 use lib.Seq.{take-nil}
 use Rattle.words.specs.Token as TokenKind
-use Rattle.scan.specs.Bytes.{Class, none, within, digit, upper, lower, identStart, identPart, blank, isDigit}
-use Rattle.scan.specs.Lexer.{Lexeme, lexeme, plain, Rule, token, regex, run, spelled, classed, matched, callback, Match, longest, Fixed, rule, punctuation, keywords, others}
+use Rattle.scan.specs.Bytes.{Class, identPart}
+use Rattle.scan.specs.Lexer.{Lexeme, plain, Rule, token, run, spelled, matched, callback, Match, longest, Fixed, rule, keywords}
 
 -- One rule: passed over where it matches no more than the best so far, else the best.
 pub keep : (m : Match) (r : Rule) (rs : List Rule) (s : List ℕ) → matched r s ≤ m .len → longest m (r ∷ rs) s ≡ longest m rs s

@@ -47,7 +47,7 @@ pub fn is_ident_start(b: u8) -> bool
     b == 95
 }
 
-pub fn is_ident_part(b: u8) -> bool
+fn is_ident_part(b: u8) -> bool
     ensures { λ r. ⌜ r ≡ identPart b ⌝ }
 {
     if is_ident_start(b) {

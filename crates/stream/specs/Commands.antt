@@ -1,20 +1,18 @@
 -- Laws of the commands on tokens, in the terms of the functions that do them.
-use mathlib.Core.Path.{_≡_, refl, sym, _∙_, ap}
+use mathlib.Core.Path.{_≡_, refl, _∙_, ap}
 use mathlib.Core.List.{List, []}
-use mathlib.Core.Bool.{Bool, true, false, cond, not, _&&_}
-use Prim.Native.Nat.{ℕ, pred, _+_, _-_, _≤_, _<_}
-use native.Mathlib.Numerals.{add-one, sub-one}
+use mathlib.Core.Bool.{Bool, true, false, _&&_}
+use Prim.Native.Nat.{ℕ, pred, _+_, _≤_, _<_}
+use native.Mathlib.Numerals.{add-one}
 use borrow.Author.Tests.{eq-eqb, ne-eqb}
 use lib.ListN.{length, getD, drop, drop-of-length-le}
 use lib.Seq.{drop-cons}
-use lib.Dec.{eqb, ltb}
+use lib.Dec.{ltb}
 use Rattle.words.specs.Words.{tokenEnd}
 use Rattle.words.specs.Report
 use Rattle.literals.specs.declared.Span.{Span}
-use Rattle.literals.specs.Spelling.{span, tokenStart, tokenSpan, wordAt}
-use Rattle.definition.specs.declared.Cursor.{Cursor}
-use Rattle.definition.specs.declared.State.{State}
-use Rattle.definition.specs.Prog.{Prog, Act, Turn, again, stop, _>>=_, _>>_, if_then_else_, Memory, Out, done, refused, bind, kindAt, passed, skipTrivia, isMarked, markedHere, reported, peek, pass, here, before, marked, position, emit, emitAndMark, eval}
+use Rattle.literals.specs.Spelling.{span, tokenStart, wordAt}
+use Rattle.definition.specs.Prog.{Act, Turn, again, stop, _>>=_, _>>_, if_then_else_, Memory, done, kindAt, passed, skipTrivia, isMarked, markedHere, peek, pass, here, before, marked, position, emit, emitAndMark, eval}
 use Rattle.definition.specs.Tokens.{contains, emitUnexpected}
 use Rattle.reading.specs.declared.Reading.{Reading}
 use Rattle.reading.specs.Does.{Does, view, from, run, then-view}

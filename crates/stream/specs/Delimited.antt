@@ -7,8 +7,8 @@ use mathlib.Core.List.{List}
 use Prim.Native.Nat.{ℕ, _-_, _≤_, _<_}
 use lib.Dec.{eqb}
 use Rattle.definition.specs.declared.State.{State}
-use Rattle.definition.specs.Prog.{Turn, again, stop, Prog, Act, Give, Then, Branch, give, _>>=_, _>>_, loop, when, pass, Memory, Out, done, refused, bind, eval}
-use Rattle.definition.specs.Tokens.{check, eat, eof, emitUnexpected, expect, Delimited, delimited, delimitedTurn, parseDelimited}
+use Rattle.definition.specs.Prog.{Prog, Act, Give, Then, Branch, give, _>>=_, _>>_, loop, when, pass, Memory, Out, done, refused, bind, eval}
+use Rattle.definition.specs.Tokens.{check, eat, eof, emitUnexpected, expect, delimited, delimitedTurn, parseDelimited}
 use Rattle.reading.specs.declared.Reading.{Reading}
 use Rattle.reading.specs.Does.{Does, run, then, gives, when-true, when-false, turnsOf, Turns, first-turn, next-turn, last-turn, no-turn-left, refused-turn}
 

@@ -1,14 +1,12 @@
-// Tokens as the parser sees them: from `advance` to `skip_until_recovery_token` of parser/mod.rs.
+// Tokens as the parser sees them: from `advance` to `expect` of parser/mod.rs, but for what is in crate recovery.
 ghost use mathlib.Core.Path.{_≡_};
-ghost use mathlib.Core.Bool.{_&&_, _||_};
+ghost use mathlib.Core.Bool.{_||_};
 ghost use Prim.Native.Nat.{pred};
-ghost use lib.Dec.{ltb};
 ghost use Rattle.definition.specs.Prog.{memory, passed, skipTrivia, isMarked, peek, pass, emitAndMark};
-ghost use Rattle.definition.specs.Tokens.{check, eat, eof, emitUnexpected, expect, contains, expectCheckRecovery, skipTurn, skipUntilRecoveryToken};
+ghost use Rattle.definition.specs.Tokens.{check, eat, eof, emitUnexpected, expect, contains};
 ghost use Rattle.reading.specs.Does.{Does, view, from, turnsOf};
 ghost use Rattle.stream.specs.Skip.{moved};
-ghost use Rattle.stream.specs.Commands.{markHere, missing, turnIf};
-ghost use Rattle.stream.specs.Delimited.{listEnds, passUnexpected};
+ghost use Rattle.stream.specs.Commands.{markHere};
 ghost use Rattle.words.specs.Words.{tokenEnd};
 ghost use Rattle.literals.specs.Spelling.{span, tokenStart, wordAt};
 use definition::Cursor;

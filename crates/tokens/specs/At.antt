@@ -2,8 +2,8 @@
 use mathlib.Core.Path.{_≡_, refl, sym, _∙_, ap}
 use mathlib.Core.List.{List, [], _∷_, map}
 use mathlib.Core.Logic.{⊎-elim}
-use mathlib.Core.Bool.{Bool, true, false, cond, _&&_}
-use Prim.Native.Nat.{ℕ, zero, suc, _+_, _-_, _≤_, _<_}
+use mathlib.Core.Bool.{Bool, true, false, _&&_}
+use Prim.Native.Nat.{ℕ, suc, _+_, _-_, _≤_, _<_}
 use native.Mathlib.Nat.{add-zero}
 use native.Mathlib.Omega.{arith}
 use borrow.Author.Tests.{eq-eqb, ne-eqb}
@@ -16,12 +16,11 @@ use Rattle.utf8.specs.declared.Character.{Character}
 use Rattle.utf8.specs.declared.Character.the-variants.{Is, Nothing}
 use Rattle.scan.specs.declared.Token.{Token}
 use Rattle.scan.specs.Bytes.{ascii, Class, digit, upper, lower, identStart, identPart, blank, isDigit}
-use Rattle.scan.specs.Lexer.{Lexeme, lexeme, more, from, run, spelled, classed, tokenAt, lineComment, blockComment, number, string, Match, longest, noMatch, finish, rule, punctuation, plain, invalidChar}
+use Rattle.scan.specs.Lexer.{Lexeme, lexeme, more, from, run, spelled, classed, tokenAt, lineComment, blockComment, number, string, Match, longest, noMatch, finish, rule, punctuation, invalidChar}
 use Rattle.scan.specs.Longest.{keywordOf, run-length}
 use Rattle.tokens.specs.First
 use Rattle.tokens.specs.First.{hexPrefix, binPrefix, hex-token, word-token, number-token, blank-token, quote-token, at-builtin, at-error, slash-line, slash-block, slash-alone, other-token}
 use Rattle.scan.specs.Fits.{spelled-within, longest-within}
-use Rattle.tokens.specs.declared.Spelled.{Spelled}
 use Rattle.tokens.specs.declared.Spelled.the-variants.{Is as Is′, Nothing as Nothing′}
 use Rattle.tokens.specs.Cases.{matchOf}
 use Rattle.scan.specs.Laws.{ended, rest-cons, from-more, lt-or-le}

@@ -2,16 +2,16 @@
 use mathlib.Core.Path.{_≡_, refl, sym, _∙_, ap}
 use mathlib.Core.List.{List, [], _∷_, _++_, map}
 use mathlib.Core.Bool.{Bool, true, false, cond, not, _&&_, _||_, false≢true}
-use Prim.Native.Nat.{ℕ, zero, suc, _+_, _≤_, _<_}
+use Prim.Native.Nat.{ℕ, suc, _≤_}
 use native.Mathlib.Nat.{add-zero, le-of-eq}
 use native.Mathlib.Omega.{arith}
-use borrow.Author.Tests.{ne-eqb, lt-ltb, le-ltb, leb-true, ltb-true, eqb-true}
+use borrow.Author.Tests.{ne-eqb, le-ltb, leb-true, ltb-true, eqb-true}
 use lib.Dec.{eqb, leb, ltb}
 use lib.ListN.{length, getD, drop, take}
 use Rattle.words.specs.Token as TokenKind
 use Rattle.scan.specs.Bytes.{ascii, Class, none, within, digit, upper, lower, identStart, identPart, blank, isDigit}
-use Rattle.scan.specs.Lexer.{Lexeme, lexeme, more, plain, Rule, token, regex, run, spelled, classed, matched, callback, Match, longest, Fixed, rule, punctuation, keywords, others, rules, noMatch, finish, tokenAt, string, number, blockComment, lineComment, invalidChar}
-use Rattle.scan.specs.Longest.{keep, best, took, took-if, longest-append, differs, apart, pass, and-both, match, keywordOf, word-longest, orIdentifier, wordlies, spelled-split}
+use Rattle.scan.specs.Lexer.{lexeme, more, plain, Rule, regex, run, spelled, classed, matched, Match, longest, Fixed, rule, punctuation, keywords, others, rules, noMatch, finish, tokenAt, string, number, blockComment, lineComment}
+use Rattle.scan.specs.Longest.{keep, took, took-if, longest-append, differs, apart, pass, and-both, match, keywordOf, word-longest, orIdentifier, wordlies, spelled-split}
 
 exclude : (t : Bool) → (t ≡ true → ⊥) → t ≡ false
 exclude true f = absurd (f refl)

@@ -2,7 +2,7 @@
 use mathlib.Core.Path.{_≡_, refl, sym, _∙_, ap}
 use mathlib.Core.List.{List, [], _∷_, map}
 use mathlib.Core.Bool.{Bool, true, false, cond, not, _&&_, _||_, false≢true}
-use Prim.Native.Nat.{ℕ, zero, suc, _≤_, _<_}
+use Prim.Native.Nat.{ℕ, _≤_, _<_}
 use native.Mathlib.Omega.{arith}
 use borrow.Author.Tests.{eq-eqb, ne-eqb, eqb-true}
 use lib.Dec.{eqb, ltb}
@@ -10,7 +10,7 @@ use lib.ListN.{length, getD}
 use Rattle.tokens.specs.declared.Spelled.{Spelled}
 use Rattle.tokens.specs.declared.Spelled.the-variants.{Is, Nothing}
 use Rattle.scan.specs.Lexer.{Match, longest, matched, spelled, noMatch, Fixed, rule, punctuation, plain}
-use Rattle.scan.specs.Longest.{keep, took, took-if, match, withHead, and-both, Outside, holds, covered, apart, pass, outside, token-miss}
+use Rattle.scan.specs.Longest.{keep, took, match, withHead, and-both, Outside, holds, covered, outside, token-miss}
 use Rattle.tokens.specs.Cases.{matchOf}
 
 -- the first spelling of two bytes that ends in `n`, else another

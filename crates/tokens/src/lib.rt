@@ -5,7 +5,7 @@ ghost use mathlib.Core.Bool.{true, false, cond};
 ghost use Prim.Native.Nat.{_+_, _<_, _≤_};
 ghost use lib.Dec.{eqb};
 ghost use lib.ListN.{length, drop, getD};
-ghost use Rattle.scan.specs.Bytes.{digit, identStart, blank, isDigit};
+ghost use Rattle.scan.specs.Bytes.{digit, identStart, isDigit};
 ghost use Rattle.scan.specs.Lexer.{from, spelled, classed, tokenAt, longest, noMatch, rule, punctuation};
 ghost use Rattle.scan.specs.Longest.{same, keywordOf, withHead};
 ghost use Rattle.tokens.specs.Cases.{matchOf};

@@ -25,7 +25,7 @@ pub enum Character {
 }
 
 // One sequence: right with its length, or wrong.
-pub enum Sequence {
+enum Sequence {
     Right(usize),
     Wrong(Way),
 }

@@ -26,7 +26,11 @@ same-length-3 c = search needs
 
 returns : tie.Need-returns
 unfolding allocLastTokenAsNode
-returns c = then position-is (then (rw (c .before .before .before .before .before .before .before .before .before .before .before .before .before .before .before .before .before .before .before .before .previous .ensures) at (c .before .before .before .before .before .before .before .before .before .before .before .before .before .before .before .before .open-from .ensures)) (c .before .before .before .before .before .before .close-node .ensures))
+returns c =
+    let at-close-node = c .before .before .before .before .before .before in
+    let at-open-from = at-close-node .before .before .before .before .before .before .before .before .before .before in
+    let at-previous = at-open-from .before .before .before .before in
+    then position-is (then (rw (at-previous .previous .ensures) at (at-open-from .open-from .ensures)) (at-close-node .close-node .ensures))
 
 pub alloc-last-token-as-node-spec : {M : Type 1} → statement M
 alloc-last-token-as-node-spec =

@@ -29,7 +29,10 @@ same-length-3 c = search needs
 
 returns-2 : tie.Need-returns-2
 unfolding pushOption
-returns-2 c = rw (c .before .before .before .before .before .before .before .before .before .before .before .child .given .1) (c .before .before .before .before .before .before .push-child .ensures)
+returns-2 c =
+    let at-push-child = c .before .before .before .before .before .before in
+    let at-child = at-push-child .before .before .before .before .before in
+    rw (at-child .child .given .1) (at-push-child .push-child .ensures)
 
 pub push-option-spec : {M : Type 1} → statement M
 push-option-spec =

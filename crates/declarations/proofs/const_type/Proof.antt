@@ -10,16 +10,24 @@ eat-requires : tie.Need-eat-requires
 eat-requires c κs = search needs
 
 same-length : tie.Need-same-length
-same-length c = c .before .before .before .before .before .before .before .before .before .eat .kept .1 .1 .1 .1 .0
+same-length c =
+    let at-eat = c .before .before .before .before .before .before .before .before .before in
+    at-eat .eat .kept .1 .1 .1 .1 .0
 
 same-length-2 : tie.Need-same-length-2
-same-length-2 c = c .before .before .before .before .before .before .before .before .before .eat .kept .1 .1 .1 .1 .1 .0
+same-length-2 c =
+    let at-eat = c .before .before .before .before .before .before .before .before .before in
+    at-eat .eat .kept .1 .1 .1 .1 .1 .0
 
 same-length-3 : tie.Need-same-length-3
-same-length-3 c = c .before .before .before .before .before .before .before .before .before .eat .kept .1 .1 .1 .1 .1 .1 .0
+same-length-3 c =
+    let at-eat = c .before .before .before .before .before .before .before .before .before in
+    at-eat .eat .kept .1 .1 .1 .1 .1 .1 .0
 
 returns : tie.Need-returns
-returns c = then (c .before .before .before .before .before .before .before .before .before .eat .ensures) (when-false (not-true (c .before .before .before .before .before .before .before .before .before .eat .result .is) (c .if1 .taken)) gives)
+returns c =
+    let at-eat = c .before .before .before .before .before .before .before .before .before in
+    then (at-eat .eat .ensures) (when-false (not-true (at-eat .eat .result .is) (c .if1 .taken)) gives)
 
 update-kind-requires : tie.Need-update-kind-requires
 update-kind-requires c κs = search needs
@@ -31,16 +39,41 @@ push-child-requires : tie.Need-push-child-requires
 push-child-requires c κs = search needs
 
 same-length-4 : tie.Need-same-length-4
-same-length-4 c = c .before .before .before .before .before .before .push-child .kept .1 .1 .1 .1 .0 ∙ c .before .before .before .before .before .before .before .before .before .before .before .before .before .before .before .before .must .kept .1 .1 .1 .1 .0 ∙ c .before .before .before .before .before .before .before .before .before .before .before .before .before .before .before .before .before .before .before .before .before .before .before .before .before .before .update-kind .kept .1 .1 .1 .1 .0 ∙ c .before .before .before .before .before .before .before .before .before .before .before .before .before .before .before .before .before .before .before .before .before .before .before .before .before .before .before .before .before .before .before .before .before .before .before .before .before .before .before .eat .kept .1 .1 .1 .1 .0
+same-length-4 c =
+    let at-push-child = c .before .before .before .before .before .before in
+    let at-must = at-push-child .before .before .before .before .before .before .before .before .before .before in
+    let at-update-kind = at-must .before .before .before .before .before .before .before .before .before .before in
+    let at-eat = at-update-kind .before .before .before .before .before .before .before .before .before .before .before .before .before in
+    at-push-child .push-child .kept .1 .1 .1 .1 .0 ∙ at-must .must .kept .1 .1 .1 .1 .0 ∙ at-update-kind .update-kind .kept .1 .1 .1 .1 .0
+    ∙ at-eat .eat .kept .1 .1 .1 .1 .0
 
 same-length-5 : tie.Need-same-length-5
-same-length-5 c = c .before .before .before .before .before .before .push-child .kept .1 .1 .1 .1 .1 .0 ∙ c .before .before .before .before .before .before .before .before .before .before .before .before .before .before .before .before .must .kept .1 .1 .1 .1 .1 .0 ∙ c .before .before .before .before .before .before .before .before .before .before .before .before .before .before .before .before .before .before .before .before .before .before .before .before .before .before .update-kind .kept .1 .1 .1 .1 .1 .0 ∙ c .before .before .before .before .before .before .before .before .before .before .before .before .before .before .before .before .before .before .before .before .before .before .before .before .before .before .before .before .before .before .before .before .before .before .before .before .before .before .before .eat .kept .1 .1 .1 .1 .1 .0
+same-length-5 c =
+    let at-push-child = c .before .before .before .before .before .before in
+    let at-must = at-push-child .before .before .before .before .before .before .before .before .before .before in
+    let at-update-kind = at-must .before .before .before .before .before .before .before .before .before .before in
+    let at-eat = at-update-kind .before .before .before .before .before .before .before .before .before .before .before .before .before in
+    at-push-child .push-child .kept .1 .1 .1 .1 .1 .0 ∙ at-must .must .kept .1 .1 .1 .1 .1 .0 ∙ at-update-kind .update-kind .kept .1 .1 .1 .1 .1 .0
+    ∙ at-eat .eat .kept .1 .1 .1 .1 .1 .0
 
 same-length-6 : tie.Need-same-length-6
-same-length-6 c = c .before .before .before .before .before .before .push-child .kept .1 .1 .1 .1 .1 .1 .0 ∙ c .before .before .before .before .before .before .before .before .before .before .before .before .before .before .before .before .must .kept .1 .1 .1 .1 .1 .1 .0 ∙ c .before .before .before .before .before .before .before .before .before .before .before .before .before .before .before .before .before .before .before .before .before .before .before .before .before .before .update-kind .kept .1 .1 .1 .1 .1 .1 .0 ∙ c .before .before .before .before .before .before .before .before .before .before .before .before .before .before .before .before .before .before .before .before .before .before .before .before .before .before .before .before .before .before .before .before .before .before .before .before .before .before .before .eat .kept .1 .1 .1 .1 .1 .1 .0
+same-length-6 c =
+    let at-push-child = c .before .before .before .before .before .before in
+    let at-must = at-push-child .before .before .before .before .before .before .before .before .before .before in
+    let at-update-kind = at-must .before .before .before .before .before .before .before .before .before .before in
+    let at-eat = at-update-kind .before .before .before .before .before .before .before .before .before .before .before .before .before in
+    at-push-child .push-child .kept .1 .1 .1 .1 .1 .1 .0 ∙ at-must .must .kept .1 .1 .1 .1 .1 .1 .0
+    ∙ at-update-kind .update-kind .kept .1 .1 .1 .1 .1 .1 .0 ∙ at-eat .eat .kept .1 .1 .1 .1 .1 .1 .0
 
 returns-2 : tie.Need-returns-2
-returns-2 c = then (c .before .before .before .before .before .before .before .before .before .before .before .before .before .before .before .before .before .before .before .before .before .before .before .before .before .before .before .before .before .before .before .before .before .before .before .before .before .before .before .eat .ensures) (when-true (not-false (c .before .before .before .before .before .before .before .before .before .before .before .before .before .before .before .before .before .before .before .before .before .before .before .before .before .before .before .before .before .before .before .before .before .before .before .before .before .before .before .eat .result .is) (c .before .before .before .before .before .before .before .before .before .before .before .before .before .before .before .before .before .before .before .before .before .before .before .before .before .before .before .before .before .before .if1 .left)) (then (c .before .before .before .before .before .before .before .before .before .before .before .before .before .before .before .before .before .before .before .before .before .before .before .before .before .before .update-kind .ensures) (then (c .before .before .before .before .before .before .before .before .before .before .before .before .before .before .before .before .must .ensures) (c .before .before .before .before .before .before .push-child .ensures))))
+returns-2 c =
+    let at-push-child = c .before .before .before .before .before .before in
+    let at-must = at-push-child .before .before .before .before .before .before .before .before .before .before in
+    let at-update-kind = at-must .before .before .before .before .before .before .before .before .before .before in
+    let at-if1 = at-update-kind .before .before .before .before in
+    let at-eat = at-if1 .before .before .before .before .before .before .before .before .before in
+    then (at-eat .eat .ensures) (when-true (not-false (at-eat .eat .result .is) (at-if1 .if1 .left))
+    (then (at-update-kind .update-kind .ensures) (then (at-must .must .ensures) (at-push-child .push-child .ensures))))
 
 pub const-type-spec : {M : Type 1} → statement M
 const-type-spec =

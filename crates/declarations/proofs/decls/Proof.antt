@@ -37,11 +37,29 @@ push-child-requires : tie.Need-push-child-requires Inv-loop μ-loop
 push-child-requires c κs = search needs
 
 loop-less : tie.Need-loop-less Inv-loop μ-loop
-loop-less c = omega (arith, c .before .before .before .before .before .before .before .before .before .before .before .before .before .before .before .before .before .before .before .before .before .before .before .before .before .before .before .before .before .before .before .before .before .before .before .before .loop-test .taken)
+loop-less c =
+    let at-loop-test = c .before .before .before .before .before .before .before .before .before .before .before .before .before .before .before .before .before .before .before .before .before .before .before .before .before .before .before .before .before .before .before .before .before .before .before .before in
+    omega (arith, at-loop-test .loop-test .taken)
 
 loop-again : tie.Need-loop-again Inv-loop μ-loop
 unfolding declTurn
-loop-again c = (next-turn (c .before .before .before .before .before .before .before .before .before .before .before .before .before .before .before .before .before .before .before .before .before .before .before .before .before .before .before .before .before .before .before .before .before .before .before .before .before .loop .inv .0) (c .before .before .before .before .before .before .before .before .before .before .before .before .before .before .before .before .before .before .before .before .before .before .before .before .before .before .before .before .before .before .before .before .before .before .before .before .loop-test .taken) (then (c .before .before .before .before .before .before .before .before .before .before .before .before .before .before .before .before .before .before .before .before .before .before .before .before .before .before .before .before .before .before .eof .ensures) (when-false (c .before .before .before .before .before .before .before .before .before .before .before .before .before .before .before .before .before .before .before .before .before .before .if2 .left) (then (c .before .before .before .before .before .before .before .before .before .before .before .before .before .before .before .before .before .before .parse-decl .ensures) (then (c .before .before .before .before .before .before .before .before .push-child .ensures) gives)))), c .before .before .before .before .before .before .before .before .push-child .kept .1 .1 .1 .1 .0 ∙ c .before .before .before .before .before .before .before .before .before .before .before .before .before .before .before .before .before .before .parse-decl .kept .1 .1 .1 .1 .0 ∙ c .before .before .before .before .before .before .before .before .before .before .before .before .before .before .before .before .before .before .before .before .before .before .before .before .before .before .before .before .before .before .eof .kept .1 .1 .1 .1 .0 ∙ c .before .before .before .before .before .before .before .before .before .before .before .before .before .before .before .before .before .before .before .before .before .before .before .before .before .before .before .before .before .before .before .before .before .before .before .before .before .loop .inv .1, c .before .before .before .before .before .before .before .before .push-child .kept .1 .1 .1 .1 .1 .0 ∙ c .before .before .before .before .before .before .before .before .before .before .before .before .before .before .before .before .before .before .parse-decl .kept .1 .1 .1 .1 .1 .0 ∙ c .before .before .before .before .before .before .before .before .before .before .before .before .before .before .before .before .before .before .before .before .before .before .before .before .before .before .before .before .before .before .eof .kept .1 .1 .1 .1 .1 .0 ∙ c .before .before .before .before .before .before .before .before .before .before .before .before .before .before .before .before .before .before .before .before .before .before .before .before .before .before .before .before .before .before .before .before .before .before .before .before .before .loop .inv .2, c .before .before .before .before .before .before .before .before .push-child .kept .1 .1 .1 .1 .1 .1 .0 ∙ c .before .before .before .before .before .before .before .before .before .before .before .before .before .before .before .before .before .before .parse-decl .kept .1 .1 .1 .1 .1 .1 .0 ∙ c .before .before .before .before .before .before .before .before .before .before .before .before .before .before .before .before .before .before .before .before .before .before .before .before .before .before .before .before .before .before .eof .kept .1 .1 .1 .1 .1 .1 .0 ∙ c .before .before .before .before .before .before .before .before .before .before .before .before .before .before .before .before .before .before .before .before .before .before .before .before .before .before .before .before .before .before .before .before .before .before .before .before .before .loop .inv .3)
+loop-again c =
+    let at-push-child = c .before .before .before .before .before .before .before .before in
+    let at-parse-decl = at-push-child .before .before .before .before .before .before .before .before .before .before in
+    let at-if2 = at-parse-decl .before .before .before .before in
+    let at-eof = at-if2 .before .before .before .before .before .before .before .before in
+    let at-loop-test = at-eof .before .before .before .before .before .before in
+    let at-loop = at-loop-test .before in (
+      next-turn (at-loop .loop .inv .0) (at-loop-test .loop-test .taken)
+          (then (at-eof .eof .ensures) (when-false (at-if2 .if2 .left)
+          (then (at-parse-decl .parse-decl .ensures) (then (at-push-child .push-child .ensures) gives)))),
+      at-push-child .push-child .kept .1 .1 .1 .1 .0 ∙ at-parse-decl .parse-decl .kept .1 .1 .1 .1 .0 ∙ at-eof .eof .kept .1 .1 .1 .1 .0
+          ∙ at-loop .loop .inv .1,
+      at-push-child .push-child .kept .1 .1 .1 .1 .1 .0 ∙ at-parse-decl .parse-decl .kept .1 .1 .1 .1 .1 .0
+          ∙ at-eof .eof .kept .1 .1 .1 .1 .1 .0 ∙ at-loop .loop .inv .2,
+      at-push-child .push-child .kept .1 .1 .1 .1 .1 .1 .0
+          ∙ at-parse-decl .parse-decl .kept .1 .1 .1 .1 .1 .1 .0 ∙ at-eof .eof .kept .1 .1 .1 .1 .1 .1 .0 ∙ at-loop .loop .inv .3,
+    )
 
 same-length : tie.Need-same-length Inv-loop μ-loop
 same-length c = c .before .loop .inv .1
@@ -68,17 +86,30 @@ returns-2 : tie.Need-returns-2 Inv-loop μ-loop
 returns-2 c = refused-turn (c .before .before .before .loop .inv .0) (c .if1 .taken)
 
 same-length-7 : tie.Need-same-length-7 Inv-loop μ-loop
-same-length-7 c = c .before .before .before .before .before .before .before .before .eof .kept .1 .1 .1 .1 .0 ∙ c .before .before .before .before .before .before .before .before .before .before .before .before .before .before .before .loop .inv .1
+same-length-7 c =
+    let at-eof = c .before .before .before .before .before .before .before .before in
+    let at-loop = at-eof .before .before .before .before .before .before .before in
+    at-eof .eof .kept .1 .1 .1 .1 .0 ∙ at-loop .loop .inv .1
 
 same-length-8 : tie.Need-same-length-8 Inv-loop μ-loop
-same-length-8 c = c .before .before .before .before .before .before .before .before .eof .kept .1 .1 .1 .1 .1 .0 ∙ c .before .before .before .before .before .before .before .before .before .before .before .before .before .before .before .loop .inv .2
+same-length-8 c =
+    let at-eof = c .before .before .before .before .before .before .before .before in
+    let at-loop = at-eof .before .before .before .before .before .before .before in
+    at-eof .eof .kept .1 .1 .1 .1 .1 .0 ∙ at-loop .loop .inv .2
 
 same-length-9 : tie.Need-same-length-9 Inv-loop μ-loop
-same-length-9 c = c .before .before .before .before .before .before .before .before .eof .kept .1 .1 .1 .1 .1 .1 .0 ∙ c .before .before .before .before .before .before .before .before .before .before .before .before .before .before .before .loop .inv .3
+same-length-9 c =
+    let at-eof = c .before .before .before .before .before .before .before .before in
+    let at-loop = at-eof .before .before .before .before .before .before .before in
+    at-eof .eof .kept .1 .1 .1 .1 .1 .1 .0 ∙ at-loop .loop .inv .3
 
 returns-3 : tie.Need-returns-3 Inv-loop μ-loop
 unfolding declTurn
-returns-3 c = last-turn (c .before .before .before .before .before .before .before .before .before .before .before .before .before .before .before .loop .inv .0) (c .before .before .before .before .before .before .before .before .before .before .before .before .before .before .loop-test .taken) (then (c .before .before .before .before .before .before .before .before .eof .ensures) (when-true (c .if2 .taken) gives))
+returns-3 c =
+    let at-eof = c .before .before .before .before .before .before .before .before in
+    let at-loop-test = at-eof .before .before .before .before .before .before in
+    let at-loop = at-loop-test .before in
+    last-turn (at-loop .loop .inv .0) (at-loop-test .loop-test .taken) (then (at-eof .eof .ensures) (when-true (c .if2 .taken) gives))
 
 pub decls-spec : {M : Type 1} → statement M
 decls-spec =

@@ -18,16 +18,35 @@ close-node-requires : tie.Need-close-node-requires
 close-node-requires c κs = search needs
 
 same-length : tie.Need-same-length
-same-length c = c .before .before .before .before .before .before .close-node .kept .1 .1 .1 .1 .0 ∙ c .before .before .before .before .before .before .before .before .before .before .before .before .before .before .before .before .expect-check-recovery .kept .1 .1 .1 .1 .0 ∙ c .before .before .before .before .before .before .before .before .before .before .before .before .before .before .before .before .before .before .before .before .before .before .before .before .before .before .before .push-child .kept .1 .1 .1 .1 .0
+same-length c =
+    let at-close-node = c .before .before .before .before .before .before in
+    let at-expect-check-recovery = at-close-node .before .before .before .before .before .before .before .before .before .before in
+    let at-push-child = at-expect-check-recovery .before .before .before .before .before .before .before .before .before .before .before in
+    at-close-node .close-node .kept .1 .1 .1 .1 .0 ∙ at-expect-check-recovery .expect-check-recovery .kept .1 .1 .1 .1 .0
+    ∙ at-push-child .push-child .kept .1 .1 .1 .1 .0
 
 same-length-2 : tie.Need-same-length-2
-same-length-2 c = c .before .before .before .before .before .before .close-node .kept .1 .1 .1 .1 .1 .0 ∙ c .before .before .before .before .before .before .before .before .before .before .before .before .before .before .before .before .expect-check-recovery .kept .1 .1 .1 .1 .1 .0 ∙ c .before .before .before .before .before .before .before .before .before .before .before .before .before .before .before .before .before .before .before .before .before .before .before .before .before .before .before .push-child .kept .1 .1 .1 .1 .1 .0
+same-length-2 c =
+    let at-close-node = c .before .before .before .before .before .before in
+    let at-expect-check-recovery = at-close-node .before .before .before .before .before .before .before .before .before .before in
+    let at-push-child = at-expect-check-recovery .before .before .before .before .before .before .before .before .before .before .before in
+    at-close-node .close-node .kept .1 .1 .1 .1 .1 .0 ∙ at-expect-check-recovery .expect-check-recovery .kept .1 .1 .1 .1 .1 .0
+    ∙ at-push-child .push-child .kept .1 .1 .1 .1 .1 .0
 
 same-length-3 : tie.Need-same-length-3
-same-length-3 c = c .before .before .before .before .before .before .close-node .kept .1 .1 .1 .1 .1 .1 .0 ∙ c .before .before .before .before .before .before .before .before .before .before .before .before .before .before .before .before .expect-check-recovery .kept .1 .1 .1 .1 .1 .1 .0 ∙ c .before .before .before .before .before .before .before .before .before .before .before .before .before .before .before .before .before .before .before .before .before .before .before .before .before .before .before .push-child .kept .1 .1 .1 .1 .1 .1 .0
+same-length-3 c =
+    let at-close-node = c .before .before .before .before .before .before in
+    let at-expect-check-recovery = at-close-node .before .before .before .before .before .before .before .before .before .before in
+    let at-push-child = at-expect-check-recovery .before .before .before .before .before .before .before .before .before .before .before in
+    at-close-node .close-node .kept .1 .1 .1 .1 .1 .1 .0 ∙ at-expect-check-recovery .expect-check-recovery .kept .1 .1 .1 .1 .1 .1 .0
+    ∙ at-push-child .push-child .kept .1 .1 .1 .1 .1 .1 .0
 
 returns : tie.Need-returns
-returns c = then (c .before .before .before .before .before .before .before .before .before .before .before .before .before .before .before .before .before .before .before .before .before .before .before .before .before .before .before .push-child .ensures) (then (c .before .before .before .before .before .before .before .before .before .before .before .before .before .before .before .before .expect-check-recovery .ensures) (c .before .before .before .before .before .before .close-node .ensures))
+returns c =
+    let at-close-node = c .before .before .before .before .before .before in
+    let at-expect-check-recovery = at-close-node .before .before .before .before .before .before .before .before .before .before in
+    let at-push-child = at-expect-check-recovery .before .before .before .before .before .before .before .before .before .before .before in
+    then (at-push-child .push-child .ensures) (then (at-expect-check-recovery .expect-check-recovery .ensures) (at-close-node .close-node .ensures))
 
 pub end-const-spec : {M : Type 1} → statement M
 end-const-spec =

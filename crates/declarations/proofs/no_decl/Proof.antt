@@ -19,17 +19,41 @@ close-node-requires : tie.Need-close-node-requires
 close-node-requires c κs = search needs
 
 same-length : tie.Need-same-length
-same-length c = c .before .before .before .before .before .before .close-node .kept .1 .1 .1 .1 .0 ∙ c .before .before .before .before .before .before .before .before .before .before .before .before .before .before .before .before .open-from .kept .1 .1 .1 .1 .0 ∙ c .before .before .before .before .before .before .before .before .before .before .before .before .before .before .before .before .before .before .before .before .before .before .before .before .before .before .skip .kept .1 .1 .1 .1 .0 ∙ c .before .before .before .before .before .before .before .before .before .before .before .before .before .before .before .before .before .before .before .before .before .before .before .before .before .before .before .before .before .before .before .before .before .before .before .before .emit-unexpected .kept .1 .1 .1 .1 .0
+same-length c =
+    let at-close-node = c .before .before .before .before .before .before in
+    let at-open-from = at-close-node .before .before .before .before .before .before .before .before .before .before in
+    let at-skip = at-open-from .before .before .before .before .before .before .before .before .before .before in
+    let at-emit-unexpected = at-skip .before .before .before .before .before .before .before .before .before .before in
+    at-close-node .close-node .kept .1 .1 .1 .1 .0 ∙ at-open-from .open-from .kept .1 .1 .1 .1 .0 ∙ at-skip .skip .kept .1 .1 .1 .1 .0
+    ∙ at-emit-unexpected .emit-unexpected .kept .1 .1 .1 .1 .0
 
 same-length-2 : tie.Need-same-length-2
-same-length-2 c = c .before .before .before .before .before .before .close-node .kept .1 .1 .1 .1 .1 .0 ∙ c .before .before .before .before .before .before .before .before .before .before .before .before .before .before .before .before .open-from .kept .1 .1 .1 .1 .1 .0 ∙ c .before .before .before .before .before .before .before .before .before .before .before .before .before .before .before .before .before .before .before .before .before .before .before .before .before .before .skip .kept .1 .1 .1 .1 .1 .0 ∙ c .before .before .before .before .before .before .before .before .before .before .before .before .before .before .before .before .before .before .before .before .before .before .before .before .before .before .before .before .before .before .before .before .before .before .before .before .emit-unexpected .kept .1 .1 .1 .1 .1 .0
+same-length-2 c =
+    let at-close-node = c .before .before .before .before .before .before in
+    let at-open-from = at-close-node .before .before .before .before .before .before .before .before .before .before in
+    let at-skip = at-open-from .before .before .before .before .before .before .before .before .before .before in
+    let at-emit-unexpected = at-skip .before .before .before .before .before .before .before .before .before .before in
+    at-close-node .close-node .kept .1 .1 .1 .1 .1 .0 ∙ at-open-from .open-from .kept .1 .1 .1 .1 .1 .0 ∙ at-skip .skip .kept .1 .1 .1 .1 .1 .0
+    ∙ at-emit-unexpected .emit-unexpected .kept .1 .1 .1 .1 .1 .0
 
 same-length-3 : tie.Need-same-length-3
-same-length-3 c = c .before .before .before .before .before .before .close-node .kept .1 .1 .1 .1 .1 .1 .0 ∙ c .before .before .before .before .before .before .before .before .before .before .before .before .before .before .before .before .open-from .kept .1 .1 .1 .1 .1 .1 .0 ∙ c .before .before .before .before .before .before .before .before .before .before .before .before .before .before .before .before .before .before .before .before .before .before .before .before .before .before .skip .kept .1 .1 .1 .1 .1 .1 .0 ∙ c .before .before .before .before .before .before .before .before .before .before .before .before .before .before .before .before .before .before .before .before .before .before .before .before .before .before .before .before .before .before .before .before .before .before .before .before .emit-unexpected .kept .1 .1 .1 .1 .1 .1 .0
+same-length-3 c =
+    let at-close-node = c .before .before .before .before .before .before in
+    let at-open-from = at-close-node .before .before .before .before .before .before .before .before .before .before in
+    let at-skip = at-open-from .before .before .before .before .before .before .before .before .before .before in
+    let at-emit-unexpected = at-skip .before .before .before .before .before .before .before .before .before .before in
+    at-close-node .close-node .kept .1 .1 .1 .1 .1 .1 .0 ∙ at-open-from .open-from .kept .1 .1 .1 .1 .1 .1 .0
+    ∙ at-skip .skip .kept .1 .1 .1 .1 .1 .1 .0 ∙ at-emit-unexpected .emit-unexpected .kept .1 .1 .1 .1 .1 .1 .0
 
 returns : tie.Need-returns
 unfolding noDecl
-returns c = then (c .before .before .before .before .before .before .before .before .before .before .before .before .before .before .before .before .before .before .before .before .before .before .before .before .before .before .before .before .before .before .before .before .before .before .before .before .emit-unexpected .ensures) (then (c .before .before .before .before .before .before .before .before .before .before .before .before .before .before .before .before .before .before .before .before .before .before .before .before .before .before .skip .ensures) (then (c .before .before .before .before .before .before .before .before .before .before .before .before .before .before .before .before .open-from .ensures) (c .before .before .before .before .before .before .close-node .ensures)))
+returns c =
+    let at-close-node = c .before .before .before .before .before .before in
+    let at-open-from = at-close-node .before .before .before .before .before .before .before .before .before .before in
+    let at-skip = at-open-from .before .before .before .before .before .before .before .before .before .before in
+    let at-emit-unexpected = at-skip .before .before .before .before .before .before .before .before .before .before in
+    then (at-emit-unexpected .emit-unexpected .ensures)
+    (then (at-skip .skip .ensures) (then (at-open-from .open-from .ensures) (at-close-node .close-node .ensures)))
 
 pub no-decl-spec : {M : Type 1} → statement M
 no-decl-spec =

@@ -15,16 +15,34 @@ push-child-requires : tie.Need-push-child-requires
 push-child-requires c κs = search needs
 
 same-length : tie.Need-same-length
-same-length c = c .before .before .before .before .before .before .push-child .kept .1 .1 .1 .1 .0 ∙ c .before .before .before .before .before .before .before .before .before .before .before .before .before .before .before .before .expect-ident .kept .1 .1 .1 .1 .0 ∙ c .before .before .before .before .before .before .before .before .before .before .before .before .before .before .before .before .before .before .before .before .before .before .before .before .before .before .open-from .kept .1 .1 .1 .1 .0
+same-length c =
+    let at-push-child = c .before .before .before .before .before .before in
+    let at-expect-ident = at-push-child .before .before .before .before .before .before .before .before .before .before in
+    let at-open-from = at-expect-ident .before .before .before .before .before .before .before .before .before .before in
+    at-push-child .push-child .kept .1 .1 .1 .1 .0 ∙ at-expect-ident .expect-ident .kept .1 .1 .1 .1 .0 ∙ at-open-from .open-from .kept .1 .1 .1 .1 .0
 
 same-length-2 : tie.Need-same-length-2
-same-length-2 c = c .before .before .before .before .before .before .push-child .kept .1 .1 .1 .1 .1 .0 ∙ c .before .before .before .before .before .before .before .before .before .before .before .before .before .before .before .before .expect-ident .kept .1 .1 .1 .1 .1 .0 ∙ c .before .before .before .before .before .before .before .before .before .before .before .before .before .before .before .before .before .before .before .before .before .before .before .before .before .before .open-from .kept .1 .1 .1 .1 .1 .0
+same-length-2 c =
+    let at-push-child = c .before .before .before .before .before .before in
+    let at-expect-ident = at-push-child .before .before .before .before .before .before .before .before .before .before in
+    let at-open-from = at-expect-ident .before .before .before .before .before .before .before .before .before .before in
+    at-push-child .push-child .kept .1 .1 .1 .1 .1 .0 ∙ at-expect-ident .expect-ident .kept .1 .1 .1 .1 .1 .0
+    ∙ at-open-from .open-from .kept .1 .1 .1 .1 .1 .0
 
 same-length-3 : tie.Need-same-length-3
-same-length-3 c = c .before .before .before .before .before .before .push-child .kept .1 .1 .1 .1 .1 .1 .0 ∙ c .before .before .before .before .before .before .before .before .before .before .before .before .before .before .before .before .expect-ident .kept .1 .1 .1 .1 .1 .1 .0 ∙ c .before .before .before .before .before .before .before .before .before .before .before .before .before .before .before .before .before .before .before .before .before .before .before .before .before .before .open-from .kept .1 .1 .1 .1 .1 .1 .0
+same-length-3 c =
+    let at-push-child = c .before .before .before .before .before .before in
+    let at-expect-ident = at-push-child .before .before .before .before .before .before .before .before .before .before in
+    let at-open-from = at-expect-ident .before .before .before .before .before .before .before .before .before .before in
+    at-push-child .push-child .kept .1 .1 .1 .1 .1 .1 .0 ∙ at-expect-ident .expect-ident .kept .1 .1 .1 .1 .1 .1 .0
+    ∙ at-open-from .open-from .kept .1 .1 .1 .1 .1 .1 .0
 
 returns : tie.Need-returns
-returns c = then (c .before .before .before .before .before .before .before .before .before .before .before .before .before .before .before .before .before .before .before .before .before .before .before .before .before .before .open-from .ensures) (then (c .before .before .before .before .before .before .before .before .before .before .before .before .before .before .before .before .expect-ident .ensures) (c .before .before .before .before .before .before .push-child .ensures))
+returns c =
+    let at-push-child = c .before .before .before .before .before .before in
+    let at-expect-ident = at-push-child .before .before .before .before .before .before .before .before .before .before in
+    let at-open-from = at-expect-ident .before .before .before .before .before .before .before .before .before .before in
+    then (at-open-from .open-from .ensures) (then (at-expect-ident .expect-ident .ensures) (at-push-child .push-child .ensures))
 
 pub open-const-spec : {M : Type 1} → statement M
 open-const-spec =

@@ -26,16 +26,48 @@ end-const-requires : tie.Need-end-const-requires
 end-const-requires c κs = search needs
 
 same-length : tie.Need-same-length
-same-length c = c .before .before .before .before .before .before .end-const .kept .1 .1 .1 .1 .0 ∙ c .before .before .before .before .before .before .before .before .before .before .before .before .before .before .before .before .must .kept .1 .1 .1 .1 .0 ∙ c .before .before .before .before .before .before .before .before .before .before .before .before .before .before .before .before .before .before .before .before .before .before .before .before .before .before .expect-check-recovery .kept .1 .1 .1 .1 .0 ∙ c .before .before .before .before .before .before .before .before .before .before .before .before .before .before .before .before .before .before .before .before .before .before .before .before .before .before .before .before .before .before .before .before .before .before .before .before .before .const-type .kept .1 .1 .1 .1 .0 ∙ c .before .before .before .before .before .before .before .before .before .before .before .before .before .before .before .before .before .before .before .before .before .before .before .before .before .before .before .before .before .before .before .before .before .before .before .before .before .before .before .before .before .before .before .before .before .before .before .open-const .kept .1 .1 .1 .1 .0
+same-length c =
+    let at-end-const = c .before .before .before .before .before .before in
+    let at-must = at-end-const .before .before .before .before .before .before .before .before .before .before in
+    let at-expect-check-recovery = at-must .before .before .before .before .before .before .before .before .before .before in
+    let at-const-type = at-expect-check-recovery .before .before .before .before .before .before .before .before .before .before .before in
+    let at-open-const = at-const-type .before .before .before .before .before .before .before .before .before .before in
+    at-end-const .end-const .kept .1 .1 .1 .1 .0 ∙ at-must .must .kept .1 .1 .1 .1 .0
+    ∙ at-expect-check-recovery .expect-check-recovery .kept .1 .1 .1 .1 .0 ∙ at-const-type .const-type .kept .1 .1 .1 .1 .0
+    ∙ at-open-const .open-const .kept .1 .1 .1 .1 .0
 
 same-length-2 : tie.Need-same-length-2
-same-length-2 c = c .before .before .before .before .before .before .end-const .kept .1 .1 .1 .1 .1 .0 ∙ c .before .before .before .before .before .before .before .before .before .before .before .before .before .before .before .before .must .kept .1 .1 .1 .1 .1 .0 ∙ c .before .before .before .before .before .before .before .before .before .before .before .before .before .before .before .before .before .before .before .before .before .before .before .before .before .before .expect-check-recovery .kept .1 .1 .1 .1 .1 .0 ∙ c .before .before .before .before .before .before .before .before .before .before .before .before .before .before .before .before .before .before .before .before .before .before .before .before .before .before .before .before .before .before .before .before .before .before .before .before .before .const-type .kept .1 .1 .1 .1 .1 .0 ∙ c .before .before .before .before .before .before .before .before .before .before .before .before .before .before .before .before .before .before .before .before .before .before .before .before .before .before .before .before .before .before .before .before .before .before .before .before .before .before .before .before .before .before .before .before .before .before .before .open-const .kept .1 .1 .1 .1 .1 .0
+same-length-2 c =
+    let at-end-const = c .before .before .before .before .before .before in
+    let at-must = at-end-const .before .before .before .before .before .before .before .before .before .before in
+    let at-expect-check-recovery = at-must .before .before .before .before .before .before .before .before .before .before in
+    let at-const-type = at-expect-check-recovery .before .before .before .before .before .before .before .before .before .before .before in
+    let at-open-const = at-const-type .before .before .before .before .before .before .before .before .before .before in
+    at-end-const .end-const .kept .1 .1 .1 .1 .1 .0 ∙ at-must .must .kept .1 .1 .1 .1 .1 .0
+    ∙ at-expect-check-recovery .expect-check-recovery .kept .1 .1 .1 .1 .1 .0 ∙ at-const-type .const-type .kept .1 .1 .1 .1 .1 .0
+    ∙ at-open-const .open-const .kept .1 .1 .1 .1 .1 .0
 
 same-length-3 : tie.Need-same-length-3
-same-length-3 c = c .before .before .before .before .before .before .end-const .kept .1 .1 .1 .1 .1 .1 .0 ∙ c .before .before .before .before .before .before .before .before .before .before .before .before .before .before .before .before .must .kept .1 .1 .1 .1 .1 .1 .0 ∙ c .before .before .before .before .before .before .before .before .before .before .before .before .before .before .before .before .before .before .before .before .before .before .before .before .before .before .expect-check-recovery .kept .1 .1 .1 .1 .1 .1 .0 ∙ c .before .before .before .before .before .before .before .before .before .before .before .before .before .before .before .before .before .before .before .before .before .before .before .before .before .before .before .before .before .before .before .before .before .before .before .before .before .const-type .kept .1 .1 .1 .1 .1 .1 .0 ∙ c .before .before .before .before .before .before .before .before .before .before .before .before .before .before .before .before .before .before .before .before .before .before .before .before .before .before .before .before .before .before .before .before .before .before .before .before .before .before .before .before .before .before .before .before .before .before .before .open-const .kept .1 .1 .1 .1 .1 .1 .0
+same-length-3 c =
+    let at-end-const = c .before .before .before .before .before .before in
+    let at-must = at-end-const .before .before .before .before .before .before .before .before .before .before in
+    let at-expect-check-recovery = at-must .before .before .before .before .before .before .before .before .before .before in
+    let at-const-type = at-expect-check-recovery .before .before .before .before .before .before .before .before .before .before .before in
+    let at-open-const = at-const-type .before .before .before .before .before .before .before .before .before .before in
+    at-end-const .end-const .kept .1 .1 .1 .1 .1 .1 .0 ∙ at-must .must .kept .1 .1 .1 .1 .1 .1 .0
+    ∙ at-expect-check-recovery .expect-check-recovery .kept .1 .1 .1 .1 .1 .1 .0 ∙ at-const-type .const-type .kept .1 .1 .1 .1 .1 .1 .0
+    ∙ at-open-const .open-const .kept .1 .1 .1 .1 .1 .1 .0
 
 returns : tie.Need-returns
-returns c = regrouped (const-same _) (then (c .before .before .before .before .before .before .before .before .before .before .before .before .before .before .before .before .before .before .before .before .before .before .before .before .before .before .before .before .before .before .before .before .before .before .before .before .before .before .before .before .before .before .before .before .before .before .before .open-const .ensures) (then (c .before .before .before .before .before .before .before .before .before .before .before .before .before .before .before .before .before .before .before .before .before .before .before .before .before .before .before .before .before .before .before .before .before .before .before .before .before .const-type .ensures) (then (c .before .before .before .before .before .before .before .before .before .before .before .before .before .before .before .before .before .before .before .before .before .before .before .before .before .before .expect-check-recovery .ensures) (then (c .before .before .before .before .before .before .before .before .before .before .before .before .before .before .before .before .must .ensures) (c .before .before .before .before .before .before .end-const .ensures)))))
+returns c =
+    let at-end-const = c .before .before .before .before .before .before in
+    let at-must = at-end-const .before .before .before .before .before .before .before .before .before .before in
+    let at-expect-check-recovery = at-must .before .before .before .before .before .before .before .before .before .before in
+    let at-const-type = at-expect-check-recovery .before .before .before .before .before .before .before .before .before .before .before in
+    let at-open-const = at-const-type .before .before .before .before .before .before .before .before .before .before in
+    regrouped (const-same _) (then (at-open-const .open-const .ensures)
+    (then (at-const-type .const-type .ensures) (then (at-expect-check-recovery .expect-check-recovery .ensures)
+    (then (at-must .must .ensures) (at-end-const .end-const .ensures)))))
 
 pub parse-const-decl-spec : {M : Type 1} → statement M
 parse-const-decl-spec =

@@ -36,76 +36,167 @@ no-decl-requires : tie.Need-no-decl-requires
 no-decl-requires c κs = search needs
 
 same-length : tie.Need-same-length
-same-length c = c .before .before .before .before .before .before .block .kept .1 .1 .1 .1 .0 ∙ c .before .before .before .before .before .before .before .before .before .before .before .before .before .before .before .before .before .before .eat-first .kept .1 .1 .1 .1 .0
+same-length c =
+    let at-block = c .before .before .before .before .before .before in
+    let at-eat-first = at-block .before .before .before .before .before .before .before .before .before .before .before .before in
+    at-block .block .kept .1 .1 .1 .1 .0 ∙ at-eat-first .eat-first .kept .1 .1 .1 .1 .0
 
 same-length-2 : tie.Need-same-length-2
-same-length-2 c = c .before .before .before .before .before .before .block .kept .1 .1 .1 .1 .1 .0 ∙ c .before .before .before .before .before .before .before .before .before .before .before .before .before .before .before .before .before .before .eat-first .kept .1 .1 .1 .1 .1 .0
+same-length-2 c =
+    let at-block = c .before .before .before .before .before .before in
+    let at-eat-first = at-block .before .before .before .before .before .before .before .before .before .before .before .before in
+    at-block .block .kept .1 .1 .1 .1 .1 .0 ∙ at-eat-first .eat-first .kept .1 .1 .1 .1 .1 .0
 
 same-length-3 : tie.Need-same-length-3
-same-length-3 c = c .before .before .before .before .before .before .block .kept .1 .1 .1 .1 .1 .1 .0 ∙ c .before .before .before .before .before .before .before .before .before .before .before .before .before .before .before .before .before .before .eat-first .kept .1 .1 .1 .1 .1 .1 .0
+same-length-3 c =
+    let at-block = c .before .before .before .before .before .before in
+    let at-eat-first = at-block .before .before .before .before .before .before .before .before .before .before .before .before in
+    at-block .block .kept .1 .1 .1 .1 .1 .1 .0 ∙ at-eat-first .eat-first .kept .1 .1 .1 .1 .1 .1 .0
 
 returns : tie.Need-returns
-returns c = regrouped decl-same (then position-is (then (c .before .before .before .before .before .before .before .before .before .before .before .before .before .before .before .before .before .before .eat-first .ensures) (rw (c .before .before .before .before .before .before .before .before .before .before .match .keys1) (c .before .before .before .before .before .before .block .ensures))))
+returns c =
+    let at-block = c .before .before .before .before .before .before in
+    let at-match = at-block .before .before .before .before in
+    let at-eat-first = at-match .before .before .before .before .before .before .before .before in
+    regrouped decl-same (then position-is (then (at-eat-first .eat-first .ensures) (rw (at-match .match .keys1) (at-block .block .ensures))))
 
 same-length-4 : tie.Need-same-length-4
-same-length-4 c = c .before .before .before .before .before .before .block2 .kept .1 .1 .1 .1 .0 ∙ c .before .before .before .before .before .before .before .before .before .before .before .before .before .before .before .before .before .before .eat-first .kept .1 .1 .1 .1 .0
+same-length-4 c =
+    let at-block2 = c .before .before .before .before .before .before in
+    let at-eat-first = at-block2 .before .before .before .before .before .before .before .before .before .before .before .before in
+    at-block2 .block2 .kept .1 .1 .1 .1 .0 ∙ at-eat-first .eat-first .kept .1 .1 .1 .1 .0
 
 same-length-5 : tie.Need-same-length-5
-same-length-5 c = c .before .before .before .before .before .before .block2 .kept .1 .1 .1 .1 .1 .0 ∙ c .before .before .before .before .before .before .before .before .before .before .before .before .before .before .before .before .before .before .eat-first .kept .1 .1 .1 .1 .1 .0
+same-length-5 c =
+    let at-block2 = c .before .before .before .before .before .before in
+    let at-eat-first = at-block2 .before .before .before .before .before .before .before .before .before .before .before .before in
+    at-block2 .block2 .kept .1 .1 .1 .1 .1 .0 ∙ at-eat-first .eat-first .kept .1 .1 .1 .1 .1 .0
 
 same-length-6 : tie.Need-same-length-6
-same-length-6 c = c .before .before .before .before .before .before .block2 .kept .1 .1 .1 .1 .1 .1 .0 ∙ c .before .before .before .before .before .before .before .before .before .before .before .before .before .before .before .before .before .before .eat-first .kept .1 .1 .1 .1 .1 .1 .0
+same-length-6 c =
+    let at-block2 = c .before .before .before .before .before .before in
+    let at-eat-first = at-block2 .before .before .before .before .before .before .before .before .before .before .before .before in
+    at-block2 .block2 .kept .1 .1 .1 .1 .1 .1 .0 ∙ at-eat-first .eat-first .kept .1 .1 .1 .1 .1 .1 .0
 
 returns-2 : tie.Need-returns-2
-returns-2 c = regrouped decl-same (then position-is (then (c .before .before .before .before .before .before .before .before .before .before .before .before .before .before .before .before .before .before .eat-first .ensures) (rw (c .before .before .before .before .before .before .before .before .before .before .match .keys2) (c .before .before .before .before .before .before .block2 .ensures))))
+returns-2 c =
+    let at-block2 = c .before .before .before .before .before .before in
+    let at-match = at-block2 .before .before .before .before in
+    let at-eat-first = at-match .before .before .before .before .before .before .before .before in
+    regrouped decl-same (then position-is (then (at-eat-first .eat-first .ensures) (rw (at-match .match .keys2) (at-block2 .block2 .ensures))))
 
 same-length-7 : tie.Need-same-length-7
-same-length-7 c = c .before .before .before .before .before .before .parse-const-decl .kept .1 .1 .1 .1 .0 ∙ c .before .before .before .before .before .before .before .before .before .before .before .before .before .before .before .before .before .before .eat-first .kept .1 .1 .1 .1 .0
+same-length-7 c =
+    let at-parse-const-decl = c .before .before .before .before .before .before in
+    let at-eat-first = at-parse-const-decl .before .before .before .before .before .before .before .before .before .before .before .before in
+    at-parse-const-decl .parse-const-decl .kept .1 .1 .1 .1 .0 ∙ at-eat-first .eat-first .kept .1 .1 .1 .1 .0
 
 same-length-8 : tie.Need-same-length-8
-same-length-8 c = c .before .before .before .before .before .before .parse-const-decl .kept .1 .1 .1 .1 .1 .0 ∙ c .before .before .before .before .before .before .before .before .before .before .before .before .before .before .before .before .before .before .eat-first .kept .1 .1 .1 .1 .1 .0
+same-length-8 c =
+    let at-parse-const-decl = c .before .before .before .before .before .before in
+    let at-eat-first = at-parse-const-decl .before .before .before .before .before .before .before .before .before .before .before .before in
+    at-parse-const-decl .parse-const-decl .kept .1 .1 .1 .1 .1 .0 ∙ at-eat-first .eat-first .kept .1 .1 .1 .1 .1 .0
 
 same-length-9 : tie.Need-same-length-9
-same-length-9 c = c .before .before .before .before .before .before .parse-const-decl .kept .1 .1 .1 .1 .1 .1 .0 ∙ c .before .before .before .before .before .before .before .before .before .before .before .before .before .before .before .before .before .before .eat-first .kept .1 .1 .1 .1 .1 .1 .0
+same-length-9 c =
+    let at-parse-const-decl = c .before .before .before .before .before .before in
+    let at-eat-first = at-parse-const-decl .before .before .before .before .before .before .before .before .before .before .before .before in
+    at-parse-const-decl .parse-const-decl .kept .1 .1 .1 .1 .1 .1 .0 ∙ at-eat-first .eat-first .kept .1 .1 .1 .1 .1 .1 .0
 
 returns-3 : tie.Need-returns-3
-returns-3 c = regrouped decl-same (then position-is (then (c .before .before .before .before .before .before .before .before .before .before .before .before .before .before .before .before .before .before .eat-first .ensures) (rw (c .before .before .before .before .before .before .before .before .before .before .match .keys3) (c .before .before .before .before .before .before .parse-const-decl .ensures))))
+returns-3 c =
+    let at-parse-const-decl = c .before .before .before .before .before .before in
+    let at-match = at-parse-const-decl .before .before .before .before in
+    let at-eat-first = at-match .before .before .before .before .before .before .before .before in
+    regrouped decl-same (then position-is (then (at-eat-first .eat-first .ensures)
+    (rw (at-match .match .keys3) (at-parse-const-decl .parse-const-decl .ensures))))
 
 same-length-10 : tie.Need-same-length-10
-same-length-10 c = c .before .before .before .before .before .before .public-decl .kept .1 .1 .1 .1 .0 ∙ c .before .before .before .before .before .before .before .before .before .before .before .before .before .before .before .before .before .before .eat-first .kept .1 .1 .1 .1 .0
+same-length-10 c =
+    let at-public-decl = c .before .before .before .before .before .before in
+    let at-eat-first = at-public-decl .before .before .before .before .before .before .before .before .before .before .before .before in
+    at-public-decl .public-decl .kept .1 .1 .1 .1 .0 ∙ at-eat-first .eat-first .kept .1 .1 .1 .1 .0
 
 same-length-11 : tie.Need-same-length-11
-same-length-11 c = c .before .before .before .before .before .before .public-decl .kept .1 .1 .1 .1 .1 .0 ∙ c .before .before .before .before .before .before .before .before .before .before .before .before .before .before .before .before .before .before .eat-first .kept .1 .1 .1 .1 .1 .0
+same-length-11 c =
+    let at-public-decl = c .before .before .before .before .before .before in
+    let at-eat-first = at-public-decl .before .before .before .before .before .before .before .before .before .before .before .before in
+    at-public-decl .public-decl .kept .1 .1 .1 .1 .1 .0 ∙ at-eat-first .eat-first .kept .1 .1 .1 .1 .1 .0
 
 same-length-12 : tie.Need-same-length-12
-same-length-12 c = c .before .before .before .before .before .before .public-decl .kept .1 .1 .1 .1 .1 .1 .0 ∙ c .before .before .before .before .before .before .before .before .before .before .before .before .before .before .before .before .before .before .eat-first .kept .1 .1 .1 .1 .1 .1 .0
+same-length-12 c =
+    let at-public-decl = c .before .before .before .before .before .before in
+    let at-eat-first = at-public-decl .before .before .before .before .before .before .before .before .before .before .before .before in
+    at-public-decl .public-decl .kept .1 .1 .1 .1 .1 .1 .0 ∙ at-eat-first .eat-first .kept .1 .1 .1 .1 .1 .1 .0
 
 returns-4 : tie.Need-returns-4
-returns-4 c = regrouped decl-same (then position-is (then (c .before .before .before .before .before .before .before .before .before .before .before .before .before .before .before .before .before .before .eat-first .ensures) (rw (c .before .before .before .before .before .before .before .before .before .before .match .keys4) (c .before .before .before .before .before .before .public-decl .ensures))))
+returns-4 c =
+    let at-public-decl = c .before .before .before .before .before .before in
+    let at-match = at-public-decl .before .before .before .before in
+    let at-eat-first = at-match .before .before .before .before .before .before .before .before in
+    regrouped decl-same (then position-is (then (at-eat-first .eat-first .ensures)
+    (rw (at-match .match .keys4) (at-public-decl .public-decl .ensures))))
 
 same-length-13 : tie.Need-same-length-13
-same-length-13 c = c .before .before .before .before .before .before .parse-import-decl .kept .1 .1 .1 .1 .0 ∙ c .before .before .before .before .before .before .before .before .before .before .before .before .before .before .before .before .before .before .eat-first .kept .1 .1 .1 .1 .0
+same-length-13 c =
+    let at-parse-import-decl = c .before .before .before .before .before .before in
+    let at-eat-first = at-parse-import-decl .before .before .before .before .before .before .before .before .before .before .before .before in
+    at-parse-import-decl .parse-import-decl .kept .1 .1 .1 .1 .0 ∙ at-eat-first .eat-first .kept .1 .1 .1 .1 .0
 
 same-length-14 : tie.Need-same-length-14
-same-length-14 c = c .before .before .before .before .before .before .parse-import-decl .kept .1 .1 .1 .1 .1 .0 ∙ c .before .before .before .before .before .before .before .before .before .before .before .before .before .before .before .before .before .before .eat-first .kept .1 .1 .1 .1 .1 .0
+same-length-14 c =
+    let at-parse-import-decl = c .before .before .before .before .before .before in
+    let at-eat-first = at-parse-import-decl .before .before .before .before .before .before .before .before .before .before .before .before in
+    at-parse-import-decl .parse-import-decl .kept .1 .1 .1 .1 .1 .0 ∙ at-eat-first .eat-first .kept .1 .1 .1 .1 .1 .0
 
 same-length-15 : tie.Need-same-length-15
-same-length-15 c = c .before .before .before .before .before .before .parse-import-decl .kept .1 .1 .1 .1 .1 .1 .0 ∙ c .before .before .before .before .before .before .before .before .before .before .before .before .before .before .before .before .before .before .eat-first .kept .1 .1 .1 .1 .1 .1 .0
+same-length-15 c =
+    let at-parse-import-decl = c .before .before .before .before .before .before in
+    let at-eat-first = at-parse-import-decl .before .before .before .before .before .before .before .before .before .before .before .before in
+    at-parse-import-decl .parse-import-decl .kept .1 .1 .1 .1 .1 .1 .0 ∙ at-eat-first .eat-first .kept .1 .1 .1 .1 .1 .1 .0
 
 returns-5 : tie.Need-returns-5
-returns-5 c = regrouped decl-same (then position-is (then (c .before .before .before .before .before .before .before .before .before .before .before .before .before .before .before .before .before .before .eat-first .ensures) (rw (c .before .before .before .before .before .before .before .before .before .before .match .keys5) (c .before .before .before .before .before .before .parse-import-decl .ensures))))
+returns-5 c =
+    let at-parse-import-decl = c .before .before .before .before .before .before in
+    let at-match = at-parse-import-decl .before .before .before .before in
+    let at-eat-first = at-match .before .before .before .before .before .before .before .before in
+    regrouped decl-same (then position-is (then (at-eat-first .eat-first .ensures)
+    (rw (at-match .match .keys5) (at-parse-import-decl .parse-import-decl .ensures))))
 
 same-length-16 : tie.Need-same-length-16
-same-length-16 c = c .before .before .before .before .before .before .no-decl .kept .1 .1 .1 .1 .0 ∙ c .before .before .before .before .before .before .before .before .before .before .before .before .before .before .before .before .before .before .eat-first .kept .1 .1 .1 .1 .0
+same-length-16 c =
+    let at-no-decl = c .before .before .before .before .before .before in
+    let at-eat-first = at-no-decl .before .before .before .before .before .before .before .before .before .before .before .before in
+    at-no-decl .no-decl .kept .1 .1 .1 .1 .0 ∙ at-eat-first .eat-first .kept .1 .1 .1 .1 .0
 
 same-length-17 : tie.Need-same-length-17
-same-length-17 c = c .before .before .before .before .before .before .no-decl .kept .1 .1 .1 .1 .1 .0 ∙ c .before .before .before .before .before .before .before .before .before .before .before .before .before .before .before .before .before .before .eat-first .kept .1 .1 .1 .1 .1 .0
+same-length-17 c =
+    let at-no-decl = c .before .before .before .before .before .before in
+    let at-eat-first = at-no-decl .before .before .before .before .before .before .before .before .before .before .before .before in
+    at-no-decl .no-decl .kept .1 .1 .1 .1 .1 .0 ∙ at-eat-first .eat-first .kept .1 .1 .1 .1 .1 .0
 
 same-length-18 : tie.Need-same-length-18
-same-length-18 c = c .before .before .before .before .before .before .no-decl .kept .1 .1 .1 .1 .1 .1 .0 ∙ c .before .before .before .before .before .before .before .before .before .before .before .before .before .before .before .before .before .before .eat-first .kept .1 .1 .1 .1 .1 .1 .0
+same-length-18 c =
+    let at-no-decl = c .before .before .before .before .before .before in
+    let at-eat-first = at-no-decl .before .before .before .before .before .before .before .before .before .before .before .before in
+    at-no-decl .no-decl .kept .1 .1 .1 .1 .1 .1 .0 ∙ at-eat-first .eat-first .kept .1 .1 .1 .1 .1 .1 .0
 
 returns-6 : tie.Need-returns-6
-returns-6 c = regrouped decl-same (then position-is (then (c .before .before .before .before .before .before .before .before .before .before .before .before .before .before .before .before .before .before .eat-first .ensures) (rw (taken-none (declWays (c .before .before .before .before .before .before .before .before .before .before .before .before .before .before .before .before .before .before .before .before .before .before .before .before .before .before .before .before .before .before .args .s .state .cursor .at)) (noDecl (c .before .before .before .before .before .before .before .before .before .before .before .before .before .before .before .before .before .before .before .before .before .before .before .before .before .before .before .before .before .before .args .s .state .cursor .at) skipUntilDeclStart) (c .before .before .before .before .before .before .before .before .before .before .before .before .before .before .before .before .before .before .eat-first .result .it) (omega (arith, c .before .before .before .before .before .before .before .before .before .before .match .rest .1, c .before .before .before .before .before .before .before .before .before .before .match .rest .0 .1, c .before .before .before .before .before .before .before .before .before .before .match .rest .0 .0 .1, c .before .before .before .before .before .before .before .before .before .before .match .rest .0 .0 .0 .1, c .before .before .before .before .before .before .before .before .before .before .match .rest .0 .0 .0 .0 .1))) (c .before .before .before .before .before .before .no-decl .ensures))))
+returns-6 c =
+    let at-no-decl = c .before .before .before .before .before .before in
+    let at-match = at-no-decl .before .before .before .before in
+    let at-eat-first = at-match .before .before .before .before .before .before .before .before in
+    let at-args = at-eat-first .before .before .before .before .before .before .before .before .before .before .before .before in
+    regrouped decl-same (then position-is (then (at-eat-first .eat-first .ensures)
+    (rw (taken-none (declWays (at-args .args .s .state .cursor .at)) (noDecl (at-args .args .s .state .cursor .at) skipUntilDeclStart)
+    (at-eat-first .eat-first .result .it) (omega (
+      arith,
+      at-match .match .rest .1,
+      at-match .match .rest .0 .1,
+      at-match .match .rest .0 .0 .1,
+      at-match .match .rest .0 .0 .0 .1,
+      at-match .match .rest .0 .0 .0 .0 .1,
+    ))) (at-no-decl .no-decl .ensures))))
 
 pub parse-decl-spec : {M : Type 1} → statement M
 parse-decl-spec =

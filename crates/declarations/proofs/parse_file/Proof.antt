@@ -16,17 +16,34 @@ close-node-requires : tie.Need-close-node-requires
 close-node-requires c κs = search needs
 
 same-length : tie.Need-same-length
-same-length c = c .before .before .before .before .before .before .close-node .kept .1 .1 .1 .1 .0 ∙ c .before .before .before .before .before .before .before .before .before .before .before .before .before .before .before .before .decls .kept .1 .1 .1 .1 .0 ∙ c .before .before .before .before .before .before .before .before .before .before .before .before .before .before .before .before .before .before .before .before .before .before .before .before .before .before .open-here .kept .1 .1 .1 .1 .0
+same-length c =
+    let at-close-node = c .before .before .before .before .before .before in
+    let at-decls = at-close-node .before .before .before .before .before .before .before .before .before .before in
+    let at-open-here = at-decls .before .before .before .before .before .before .before .before .before .before in
+    at-close-node .close-node .kept .1 .1 .1 .1 .0 ∙ at-decls .decls .kept .1 .1 .1 .1 .0 ∙ at-open-here .open-here .kept .1 .1 .1 .1 .0
 
 same-length-2 : tie.Need-same-length-2
-same-length-2 c = c .before .before .before .before .before .before .close-node .kept .1 .1 .1 .1 .1 .0 ∙ c .before .before .before .before .before .before .before .before .before .before .before .before .before .before .before .before .decls .kept .1 .1 .1 .1 .1 .0 ∙ c .before .before .before .before .before .before .before .before .before .before .before .before .before .before .before .before .before .before .before .before .before .before .before .before .before .before .open-here .kept .1 .1 .1 .1 .1 .0
+same-length-2 c =
+    let at-close-node = c .before .before .before .before .before .before in
+    let at-decls = at-close-node .before .before .before .before .before .before .before .before .before .before in
+    let at-open-here = at-decls .before .before .before .before .before .before .before .before .before .before in
+    at-close-node .close-node .kept .1 .1 .1 .1 .1 .0 ∙ at-decls .decls .kept .1 .1 .1 .1 .1 .0 ∙ at-open-here .open-here .kept .1 .1 .1 .1 .1 .0
 
 same-length-3 : tie.Need-same-length-3
-same-length-3 c = c .before .before .before .before .before .before .close-node .kept .1 .1 .1 .1 .1 .1 .0 ∙ c .before .before .before .before .before .before .before .before .before .before .before .before .before .before .before .before .decls .kept .1 .1 .1 .1 .1 .1 .0 ∙ c .before .before .before .before .before .before .before .before .before .before .before .before .before .before .before .before .before .before .before .before .before .before .before .before .before .before .open-here .kept .1 .1 .1 .1 .1 .1 .0
+same-length-3 c =
+    let at-close-node = c .before .before .before .before .before .before in
+    let at-decls = at-close-node .before .before .before .before .before .before .before .before .before .before in
+    let at-open-here = at-decls .before .before .before .before .before .before .before .before .before .before in
+    at-close-node .close-node .kept .1 .1 .1 .1 .1 .1 .0 ∙ at-decls .decls .kept .1 .1 .1 .1 .1 .1 .0
+    ∙ at-open-here .open-here .kept .1 .1 .1 .1 .1 .1 .0
 
 returns : tie.Need-returns
 unfolding parseFile
-returns c = then (c .before .before .before .before .before .before .before .before .before .before .before .before .before .before .before .before .before .before .before .before .before .before .before .before .before .before .open-here .ensures) (then (c .before .before .before .before .before .before .before .before .before .before .before .before .before .before .before .before .decls .ensures) (c .before .before .before .before .before .before .close-node .ensures))
+returns c =
+    let at-close-node = c .before .before .before .before .before .before in
+    let at-decls = at-close-node .before .before .before .before .before .before .before .before .before .before in
+    let at-open-here = at-decls .before .before .before .before .before .before .before .before .before .before in
+    then (at-open-here .open-here .ensures) (then (at-decls .decls .ensures) (at-close-node .close-node .ensures))
 
 pub parse-file-spec : {M : Type 1} → statement M
 parse-file-spec =

@@ -16,17 +16,29 @@ skip-until-recovery-token-requires : tie.Need-skip-until-recovery-token-requires
 skip-until-recovery-token-requires c κs = search needs
 
 same-length : tie.Need-same-length
-same-length c = c .before .before .before .before .before .before .skip-until-recovery-token .kept .1 .1 .1 .1 .0 ∙ c .before .before .before .before .before .before .before .before .before .before .before .before .before .before .before .before .before .pass .kept .1 .1 .1 .1 .0
+same-length c =
+    let at-skip-until-recovery-token = c .before .before .before .before .before .before in
+    let at-pass = at-skip-until-recovery-token .before .before .before .before .before .before .before .before .before .before .before in
+    at-skip-until-recovery-token .skip-until-recovery-token .kept .1 .1 .1 .1 .0 ∙ at-pass .pass .kept .1 .1 .1 .1 .0
 
 same-length-2 : tie.Need-same-length-2
-same-length-2 c = c .before .before .before .before .before .before .skip-until-recovery-token .kept .1 .1 .1 .1 .1 .0 ∙ c .before .before .before .before .before .before .before .before .before .before .before .before .before .before .before .before .before .pass .kept .1 .1 .1 .1 .1 .0
+same-length-2 c =
+    let at-skip-until-recovery-token = c .before .before .before .before .before .before in
+    let at-pass = at-skip-until-recovery-token .before .before .before .before .before .before .before .before .before .before .before in
+    at-skip-until-recovery-token .skip-until-recovery-token .kept .1 .1 .1 .1 .1 .0 ∙ at-pass .pass .kept .1 .1 .1 .1 .1 .0
 
 same-length-3 : tie.Need-same-length-3
-same-length-3 c = c .before .before .before .before .before .before .skip-until-recovery-token .kept .1 .1 .1 .1 .1 .1 .0 ∙ c .before .before .before .before .before .before .before .before .before .before .before .before .before .before .before .before .before .pass .kept .1 .1 .1 .1 .1 .1 .0
+same-length-3 c =
+    let at-skip-until-recovery-token = c .before .before .before .before .before .before in
+    let at-pass = at-skip-until-recovery-token .before .before .before .before .before .before .before .before .before .before .before in
+    at-skip-until-recovery-token .skip-until-recovery-token .kept .1 .1 .1 .1 .1 .1 .0 ∙ at-pass .pass .kept .1 .1 .1 .1 .1 .1 .0
 
 returns : tie.Need-returns
 unfolding skipUntilDeclStart
-returns c = then (c .before .before .before .before .before .before .before .before .before .before .before .before .before .before .before .before .before .pass .ensures) (c .before .before .before .before .before .before .skip-until-recovery-token .ensures)
+returns c =
+    let at-skip-until-recovery-token = c .before .before .before .before .before .before in
+    let at-pass = at-skip-until-recovery-token .before .before .before .before .before .before .before .before .before .before .before in
+    then (at-pass .pass .ensures) (at-skip-until-recovery-token .skip-until-recovery-token .ensures)
 
 pub skip-until-decl-start-spec : {M : Type 1} → statement M
 skip-until-decl-start-spec =

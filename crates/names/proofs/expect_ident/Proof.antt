@@ -19,30 +19,52 @@ no-ident-requires : tie.Need-no-ident-requires
 no-ident-requires c κs = search needs
 
 same-length : tie.Need-same-length
-same-length c = c .before .before .before .before .before .before .before .before .before .before .try-parse-ident .kept .1 .1 .1 .1 .0
+same-length c =
+    let at-try-parse-ident = c .before .before .before .before .before .before .before .before .before .before in
+    at-try-parse-ident .try-parse-ident .kept .1 .1 .1 .1 .0
 
 same-length-2 : tie.Need-same-length-2
-same-length-2 c = c .before .before .before .before .before .before .before .before .before .before .try-parse-ident .kept .1 .1 .1 .1 .1 .0
+same-length-2 c =
+    let at-try-parse-ident = c .before .before .before .before .before .before .before .before .before .before in
+    at-try-parse-ident .try-parse-ident .kept .1 .1 .1 .1 .1 .0
 
 same-length-3 : tie.Need-same-length-3
-same-length-3 c = c .before .before .before .before .before .before .before .before .before .before .try-parse-ident .kept .1 .1 .1 .1 .1 .1 .0
+same-length-3 c =
+    let at-try-parse-ident = c .before .before .before .before .before .before .before .before .before .before in
+    at-try-parse-ident .try-parse-ident .kept .1 .1 .1 .1 .1 .1 .0
 
 returns : tie.Need-returns
 unfolding expectIdent
-returns c = then (rw (c .before .it .given .1) at (c .before .before .before .before .before .before .before .before .before .before .try-parse-ident .ensures)) gives
+returns c =
+    let at-it = c .before in
+    let at-try-parse-ident = at-it .before .before .before .before .before .before .before .before .before in
+    then (rw (at-it .it .given .1) at (at-try-parse-ident .try-parse-ident .ensures)) gives
 
 same-length-4 : tie.Need-same-length-4
-same-length-4 c = c .before .before .before .before .before .before .no-ident .kept .1 .1 .1 .1 .0 ∙ c .before .before .before .before .before .before .before .before .before .before .before .before .before .before .before .before .before .before .before .try-parse-ident .kept .1 .1 .1 .1 .0
+same-length-4 c =
+    let at-no-ident = c .before .before .before .before .before .before in
+    let at-try-parse-ident = at-no-ident .before .before .before .before .before .before .before .before .before .before .before .before .before in
+    at-no-ident .no-ident .kept .1 .1 .1 .1 .0 ∙ at-try-parse-ident .try-parse-ident .kept .1 .1 .1 .1 .0
 
 same-length-5 : tie.Need-same-length-5
-same-length-5 c = c .before .before .before .before .before .before .no-ident .kept .1 .1 .1 .1 .1 .0 ∙ c .before .before .before .before .before .before .before .before .before .before .before .before .before .before .before .before .before .before .before .try-parse-ident .kept .1 .1 .1 .1 .1 .0
+same-length-5 c =
+    let at-no-ident = c .before .before .before .before .before .before in
+    let at-try-parse-ident = at-no-ident .before .before .before .before .before .before .before .before .before .before .before .before .before in
+    at-no-ident .no-ident .kept .1 .1 .1 .1 .1 .0 ∙ at-try-parse-ident .try-parse-ident .kept .1 .1 .1 .1 .1 .0
 
 same-length-6 : tie.Need-same-length-6
-same-length-6 c = c .before .before .before .before .before .before .no-ident .kept .1 .1 .1 .1 .1 .1 .0 ∙ c .before .before .before .before .before .before .before .before .before .before .before .before .before .before .before .before .before .before .before .try-parse-ident .kept .1 .1 .1 .1 .1 .1 .0
+same-length-6 c =
+    let at-no-ident = c .before .before .before .before .before .before in
+    let at-try-parse-ident = at-no-ident .before .before .before .before .before .before .before .before .before .before .before .before .before in
+    at-no-ident .no-ident .kept .1 .1 .1 .1 .1 .1 .0 ∙ at-try-parse-ident .try-parse-ident .kept .1 .1 .1 .1 .1 .1 .0
 
 returns-2 : tie.Need-returns-2
 unfolding expectIdent
-returns-2 c = then (rw (c .before .before .before .before .before .before .before .before .before .before .enum-told .given .1) at (c .before .before .before .before .before .before .before .before .before .before .before .before .before .before .before .before .before .before .before .try-parse-ident .ensures)) (c .before .before .before .before .before .before .no-ident .ensures)
+returns-2 c =
+    let at-no-ident = c .before .before .before .before .before .before in
+    let at-enum-told = at-no-ident .before .before .before .before in
+    let at-try-parse-ident = at-enum-told .before .before .before .before .before .before .before .before .before in
+    then (rw (at-enum-told .enum-told .given .1) at (at-try-parse-ident .try-parse-ident .ensures)) (at-no-ident .no-ident .ensures)
 
 pub expect-ident-spec : {M : Type 1} → statement M
 expect-ident-spec =

@@ -23,16 +23,30 @@ emit-and-mark-requires : tie.Need-emit-and-mark-requires
 emit-and-mark-requires c κs = search needs
 
 same-length : tie.Need-same-length
-same-length c = c .before .before .before .before .before .before .emit-and-mark .kept .1 .1 .1 .1 .0
+same-length c =
+    let at-emit-and-mark = c .before .before .before .before .before .before in
+    at-emit-and-mark .emit-and-mark .kept .1 .1 .1 .1 .0
 
 same-length-2 : tie.Need-same-length-2
-same-length-2 c = c .before .before .before .before .before .before .emit-and-mark .kept .1 .1 .1 .1 .1 .0
+same-length-2 c =
+    let at-emit-and-mark = c .before .before .before .before .before .before in
+    at-emit-and-mark .emit-and-mark .kept .1 .1 .1 .1 .1 .0
 
 same-length-3 : tie.Need-same-length-3
-same-length-3 c = c .before .before .before .before .before .before .emit-and-mark .kept .1 .1 .1 .1 .1 .1 .0
+same-length-3 c =
+    let at-emit-and-mark = c .before .before .before .before .before .before in
+    at-emit-and-mark .emit-and-mark .kept .1 .1 .1 .1 .1 .1 .0
 
 returns-2 : tie.Need-returns-2
-returns-2 c = then (marked-is (c .before .before .before .before .before .before .before .before .before .before .before .before .before .before .before .is-marked .ensures)) (when-true (ap not (c .before .before .before .before .before .before .before .before .before .before .before .before .before .before .if1 .left)) (then (here-is (c .before .before .before .before .before .before .before .before .token-start .ensures) (c .before .before .before .before .before .before .before .token-end .ensures)) (c .before .before .before .before .before .before .emit-and-mark .ensures)))
+returns-2 c =
+    let at-emit-and-mark = c .before .before .before .before .before .before in
+    let at-token-end = at-emit-and-mark .before in
+    let at-token-start = at-token-end .before in
+    let at-if1 = at-token-start .before .before .before .before .before .before in
+    let at-is-marked = at-if1 .before in
+    then (marked-is (at-is-marked .is-marked .ensures))
+    (when-true (ap not (at-if1 .if1 .left)) (then (here-is (at-token-start .token-start .ensures) (at-token-end .token-end .ensures))
+    (at-emit-and-mark .emit-and-mark .ensures)))
 
 pub tell-builtin-spec : {M : Type 1} → statement M
 tell-builtin-spec =

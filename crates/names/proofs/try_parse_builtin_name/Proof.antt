@@ -19,30 +19,54 @@ alloc-last-token-as-node-requires : tie.Need-alloc-last-token-as-node-requires
 alloc-last-token-as-node-requires c κs = search needs
 
 same-length : tie.Need-same-length
-same-length c = c .before .before .before .before .before .before .before .alloc-last-token-as-node .kept .1 .1 .1 .1 .0 ∙ c .before .before .before .before .before .before .before .before .before .before .before .before .before .before .before .before .before .before .before .before .eat .kept .1 .1 .1 .1 .0
+same-length c =
+    let at-alloc-last-token-as-node = c .before .before .before .before .before .before .before in
+    let at-eat = at-alloc-last-token-as-node .before .before .before .before .before .before .before .before .before .before .before .before .before in
+    at-alloc-last-token-as-node .alloc-last-token-as-node .kept .1 .1 .1 .1 .0 ∙ at-eat .eat .kept .1 .1 .1 .1 .0
 
 same-length-2 : tie.Need-same-length-2
-same-length-2 c = c .before .before .before .before .before .before .before .alloc-last-token-as-node .kept .1 .1 .1 .1 .1 .0 ∙ c .before .before .before .before .before .before .before .before .before .before .before .before .before .before .before .before .before .before .before .before .eat .kept .1 .1 .1 .1 .1 .0
+same-length-2 c =
+    let at-alloc-last-token-as-node = c .before .before .before .before .before .before .before in
+    let at-eat = at-alloc-last-token-as-node .before .before .before .before .before .before .before .before .before .before .before .before .before in
+    at-alloc-last-token-as-node .alloc-last-token-as-node .kept .1 .1 .1 .1 .1 .0 ∙ at-eat .eat .kept .1 .1 .1 .1 .1 .0
 
 same-length-3 : tie.Need-same-length-3
-same-length-3 c = c .before .before .before .before .before .before .before .alloc-last-token-as-node .kept .1 .1 .1 .1 .1 .1 .0 ∙ c .before .before .before .before .before .before .before .before .before .before .before .before .before .before .before .before .before .before .before .before .eat .kept .1 .1 .1 .1 .1 .1 .0
+same-length-3 c =
+    let at-alloc-last-token-as-node = c .before .before .before .before .before .before .before in
+    let at-eat = at-alloc-last-token-as-node .before .before .before .before .before .before .before .before .before .before .before .before .before in
+    at-alloc-last-token-as-node .alloc-last-token-as-node .kept .1 .1 .1 .1 .1 .1 .0 ∙ at-eat .eat .kept .1 .1 .1 .1 .1 .1 .0
 
 returns : tie.Need-returns
 unfolding tryParseBuiltinName
-returns c = then (c .before .before .before .before .before .before .before .before .before .before .before .before .before .before .before .before .before .before .before .before .eat .ensures) (when-true (c .before .before .before .before .before .before .before .before .before .before .before .before .if1 .taken) (then intern-is (then (last-cut Node.BuiltinName _ (c .before .before .before .before .before .before .before .before .before .before .before .intern .ensures) (c .before .before .before .before .before .before .before .alloc-last-token-as-node .ensures)) gives)))
+returns c =
+    let at-alloc-last-token-as-node = c .before .before .before .before .before .before .before in
+    let at-intern = at-alloc-last-token-as-node .before .before .before .before in
+    let at-if1 = at-intern .before in
+    let at-eat = at-if1 .before .before .before .before .before .before .before .before in
+    then (at-eat .eat .ensures) (when-true (at-if1 .if1 .taken)
+    (then intern-is (then (last-cut Node.BuiltinName _ (at-intern .intern .ensures)
+    (at-alloc-last-token-as-node .alloc-last-token-as-node .ensures)) gives)))
 
 same-length-4 : tie.Need-same-length-4
-same-length-4 c = c .before .before .before .before .before .before .before .before .eat .kept .1 .1 .1 .1 .0
+same-length-4 c =
+    let at-eat = c .before .before .before .before .before .before .before .before in
+    at-eat .eat .kept .1 .1 .1 .1 .0
 
 same-length-5 : tie.Need-same-length-5
-same-length-5 c = c .before .before .before .before .before .before .before .before .eat .kept .1 .1 .1 .1 .1 .0
+same-length-5 c =
+    let at-eat = c .before .before .before .before .before .before .before .before in
+    at-eat .eat .kept .1 .1 .1 .1 .1 .0
 
 same-length-6 : tie.Need-same-length-6
-same-length-6 c = c .before .before .before .before .before .before .before .before .eat .kept .1 .1 .1 .1 .1 .1 .0
+same-length-6 c =
+    let at-eat = c .before .before .before .before .before .before .before .before in
+    at-eat .eat .kept .1 .1 .1 .1 .1 .1 .0
 
 returns-2 : tie.Need-returns-2
 unfolding tryParseBuiltinName
-returns-2 c = then (c .before .before .before .before .before .before .before .before .eat .ensures) (when-false (c .if1 .left) gives)
+returns-2 c =
+    let at-eat = c .before .before .before .before .before .before .before .before in
+    then (at-eat .eat .ensures) (when-false (c .if1 .left) gives)
 
 pub try-parse-builtin-name-spec : {M : Type 1} → statement M
 try-parse-builtin-name-spec =

@@ -37,7 +37,12 @@ same-length-4 : tie.Need-same-length-4
 same-length-4 c = search needs
 
 returns : tie.Need-returns
-returns c = let a = c .before .before .before .before .before .before .before .before .before .before .before .before .before .before .before .before .before .before .before .args in let p = c .before .before .before .before .before .before .before .before .before .parse in parsed-done (a .text .now) (a .tokens .now) (a .nodes .now) (a .values .now) (a .reports .now) (a .n) (p .result) (p .ensures) (search needs) _ _ _ (c .before .nodes2 .given .1)
+returns c =
+    let at-nodes2 = c .before in
+    let at-parse = at-nodes2 .before .before .before .before .before .before .before .before in
+    let at-args = at-parse .before .before .before .before .before .before .before .before .before .before in
+    let a = at-args .args in let p = at-parse .parse in parsed-done (a .text .now) (a .tokens .now) (a .nodes .now) (a .values .now)
+    (a .reports .now) (a .n) (p .result) (p .ensures) (search needs) _ _ _ (at-nodes2 .nodes2 .given .1)
 
 same-length-5 : tie.Need-same-length-5
 same-length-5 c = search needs
@@ -52,7 +57,14 @@ same-length-8 : tie.Need-same-length-8
 same-length-8 c = search needs
 
 returns-2 : tie.Need-returns-2
-returns-2 c = let a = c .before .before .before .before .before .before .before .before .before .before .before .before .before .before .before .before .before .before .before .before .before .before .before .args in let p = c .before .before .before .before .before .before .before .before .before .before .before .before .before .parse in rw (c .before .before .clear .ensures) (parsed-refused (a .text .now) (a .tokens .now) (a .nodes .now) (a .values .now) (a .reports .now) (a .n) (p .result) (p .ensures) (search needs) _ _ (c .before .before .before .before .before .number .given .1))
+returns-2 c =
+    let at-clear = c .before .before in
+    let at-number = at-clear .before .before .before in
+    let at-parse = at-number .before .before .before .before .before .before .before .before in
+    let at-args = at-parse .before .before .before .before .before .before .before .before .before .before in
+    let a = at-args .args in let p = at-parse .parse in rw (at-clear .clear .ensures)
+    (parsed-refused (a .text .now) (a .tokens .now) (a .nodes .now) (a .values .now) (a .reports .now) (a .n) (p .result) (p .ensures)
+    (search needs) _ _ (at-number .number .given .1))
 
 pub parse-lexed-spec : {M : Type 1} → statement M
 parse-lexed-spec =

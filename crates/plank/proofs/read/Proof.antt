@@ -16,7 +16,12 @@ enum-known-n : tie.Need-enum-known-n
 enum-known-n c = search needs
 
 parse-lexed-requires : tie.Need-parse-lexed-requires
-parse-lexed-requires c κs = let a = c .before .before .before .before .before .before .before .before .before .before .before .before .before .before .before .before .args in let l = c .before .before .before .before .before .before .before .before .before .lex in let e = ap answer (sym (c .before .before .before .before .before .n .given .1)) ∙ l .ensures .0 in (omega (arith, tokens-fit (a .text .now) (length (a .tokens .now)) _ e, l .kept .1 .0), text-fits (a .text .now) (length (a .tokens .now)) _ e)
+parse-lexed-requires c κs =
+    let at-n = c .before .before .before .before .before in
+    let at-lex = at-n .before .before .before .before in
+    let at-args = at-lex .before .before .before .before .before .before .before in
+    let a = at-args .args in let l = at-lex .lex in let e = ap answer (sym (at-n .n .given .1)) ∙ l .ensures .0 in
+    (omega (arith, tokens-fit (a .text .now) (length (a .tokens .now)) _ e, l .kept .1 .0), text-fits (a .text .now) (length (a .tokens .now)) _ e)
 
 enum-known-number : tie.Need-enum-known-number
 enum-known-number c = search needs
@@ -31,7 +36,15 @@ clear-requires-3 : tie.Need-clear-requires-3
 clear-requires-3 c κs = search needs
 
 cast-t28 : tie.Need-cast-t28
-cast-t28 c = let a = c .before .before .before .before .before .before .before .before .before .before .before .before .before .before .before .before .before .before .before .before .before .before .before .before .args in omega (arith, place-small (a .text .now) (length (a .tokens .now)) _ _ (ap answer (sym (c .before .before .before .before .before .before .before .before .before .before .before .before .before .number .given .1)) ∙ c .before .before .before .before .before .before .before .before .before .before .before .before .before .before .before .before .before .lex .ensures .0))
+cast-t28 c =
+    let at-number = c .before .before .before .before .before .before .before .before .before .before .before .before .before in
+    let at-lex = at-number .before .before .before .before in
+    let at-args = at-lex .before .before .before .before .before .before .before in
+    let a = at-args .args in omega (
+      arith,
+      place-small (a .text .now) (length (a .tokens .now)) _ _
+          (ap answer (sym (at-number .number .given .1)) ∙ at-lex .lex .ensures .0),
+    )
 
 same-length : tie.Need-same-length
 same-length c = search needs
@@ -46,7 +59,14 @@ same-length-4 : tie.Need-same-length-4
 same-length-4 c = search needs
 
 returns : tie.Need-returns
-returns c = let a = c .before .before .before .before .before .before .before .before .before .before .before .before .before .before .before .before .before .before .before .before .before .before .before .before .before .args in let l = c .before .before .before .before .before .before .before .before .before .before .before .before .before .before .before .before .before .before .lex in both-clauses _ _ (lexed-done (a .text .now) (a .tokens .now) (l .last .1 .0) (a .nodes .now) (a .values .now) (a .reports .now) (l .kept .1 .0) (l .ensures .1) _ _ (ap answer (sym (c .before .before .before .before .before .before .before .before .before .before .before .before .before .before .n .given .1)) ∙ l .ensures .0) (c .before .before .before .before .before .before .before .before .parse-lexed .ensures))
+returns c =
+    let at-parse-lexed = c .before .before .before .before .before .before .before .before in
+    let at-n = at-parse-lexed .before .before .before .before .before .before in
+    let at-lex = at-n .before .before .before .before in
+    let at-args = at-lex .before .before .before .before .before .before .before in
+    let a = at-args .args in let l = at-lex .lex in both-clauses _ _
+    (lexed-done (a .text .now) (a .tokens .now) (l .last .1 .0) (a .nodes .now) (a .values .now) (a .reports .now) (l .kept .1 .0)
+    (l .ensures .1) _ _ (ap answer (sym (at-n .n .given .1)) ∙ l .ensures .0) (at-parse-lexed .parse-lexed .ensures))
 
 same-length-5 : tie.Need-same-length-5
 same-length-5 c = search needs
@@ -61,7 +81,17 @@ same-length-8 : tie.Need-same-length-8
 same-length-8 c = search needs
 
 returns-2 : tie.Need-returns-2
-returns-2 c = let a = c .before .before .before .before .before .before .before .before .before .before .before .before .before .before .before .before .before .before .before .before .before .before .before .before .args in let l = c .before .before .before .before .before .before .before .before .before .before .before .before .before .before .before .before .before .lex in both-clauses _ _ (rw (c .before .before .before .before .before .before .before .before .before .before .clear .ensures, c .before .before .before .before .before .before .clear2 .ensures, c .before .before .clear3 .ensures) (lexed-refused (a .text .now) (a .tokens .now) (l .last .1 .0) (a .nodes .now) (a .values .now) (a .reports .now) (l .kept .1 .0) (l .ensures .1) _ _ (ap answer (sym (c .before .before .before .before .before .before .before .before .before .before .before .before .before .number .given .1)) ∙ l .ensures .0)))
+returns-2 c =
+    let at-clear3 = c .before .before in
+    let at-clear2 = at-clear3 .before .before .before .before in
+    let at-clear = at-clear2 .before .before .before .before in
+    let at-number = at-clear .before .before .before in
+    let at-lex = at-number .before .before .before .before in
+    let at-args = at-lex .before .before .before .before .before .before .before in
+    let a = at-args .args in let l = at-lex .lex in both-clauses _ _
+    (rw (at-clear .clear .ensures, at-clear2 .clear2 .ensures, at-clear3 .clear3 .ensures)
+    (lexed-refused (a .text .now) (a .tokens .now) (l .last .1 .0) (a .nodes .now) (a .values .now) (a .reports .now) (l .kept .1 .0)
+    (l .ensures .1) _ _ (ap answer (sym (at-number .number .given .1)) ∙ l .ensures .0)))
 
 pub read-spec : {M : Type 1} → statement M
 read-spec =

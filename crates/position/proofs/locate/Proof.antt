@@ -24,7 +24,15 @@ shared-slice-read-past : tie.Need-shared-slice-read-past Inv-loop μ-loop
 shared-slice-read-past c = omega (arith, c .before .before .before .within .ensures)
 
 past-requires : tie.Need-past-requires Inv-loop μ-loop
-past-requires c κs = rw (c .before .before .loop .inv .1) (omega (arith, position-most (c .before .before .before .before .before .args .text .now) (c .before .before .loop .at) (omega (arith, c .before .before .before .within .ensures))))
+past-requires c κs =
+    let at-loop = c .before .before in
+    let at-within = at-loop .before in
+    let at-args = at-within .before .before in
+    rw (at-loop .loop .inv .1) (omega (
+      arith,
+      position-most (at-args .args .text .now) (at-loop .loop .at)
+          (omega (arith, at-within .within .ensures)),
+    ))
 
 add-at : tie.Need-add-at Inv-loop μ-loop
 add-at c = omega (arith, c .before .before .before .before .within .ensures)
@@ -33,7 +41,14 @@ loop-less : tie.Need-loop-less Inv-loop μ-loop
 loop-less c = omega arith
 
 loop-again : tie.Need-loop-again Inv-loop μ-loop
-loop-again c = (search needs, c .past .ensures ∙ rw (c .before .before .before .loop .inv .1) (sym (position-next (c .before .before .before .before .before .before .args .text .now) (c .before .before .before .loop .at) (omega (arith, c .before .before .before .before .within .ensures)))))
+loop-again c =
+    let at-loop = c .before .before .before in
+    let at-within = at-loop .before in
+    let at-args = at-within .before .before in (
+      search needs,
+      c .past .ensures ∙ rw (at-loop .loop .inv .1)
+          (sym (position-next (at-args .args .text .now) (at-loop .loop .at) (omega (arith, at-within .within .ensures)))),
+    )
 
 returns : tie.Need-returns Inv-loop μ-loop
 returns c = c .before .loop .inv .1 ∙ ap (positionOf (c .before .before .before .before .args .text .now)) (omega (arith, c .before .before .within .ensures)) ∙ position-clip (c .before .before .before .before .args .text .now) (c .before .before .before .before .args .offset)

@@ -34,7 +34,17 @@ loop-less : tie.Need-loop-less Inv-loop μ-loop
 loop-less c = search needs
 
 loop-again : tie.Need-loop-again Inv-loop μ-loop
-loop-again c = (search needs, rw (c .left-behind .ensures) (omega (arith, c .before .before .before .before .loop .inv .1, behind-next (c .before .before .before .before .before .before .args .text .now) (c .before .before .before .before .loop .at) (c .before .before .before .before .loop .lines) (search needs) (search needs))))
+loop-again c =
+    let at-loop = c .before .before .before .before in
+    let at-args = at-loop .before .before in (
+      search needs,
+      rw (c .left-behind .ensures) (omega (
+        arith,
+        at-loop .loop .inv .1,
+        behind-next (at-args .args .text .now) (at-loop .loop .at) (at-loop .loop .lines) (search needs)
+            (search needs),
+      )),
+    )
 
 returns-2 : tie.Need-returns-2 Inv-loop μ-loop
 returns-2 c = omega (arith, c .before .loop .inv .1, behind-past (c .before .before .before .args .text .now) (c .before .loop .at) (c .before .loop .lines) (search needs))

@@ -44,8 +44,12 @@ loop-less c = search needs
 
 loop-again : tie.Need-loop-again Inv-loop μ-loop
 loop-again c =
-    let e = rw (c .before .before .byte-at .ensures) at (sym (c .before .is-pair .ensures) ∙ c .if2 .taken) in
-    (block-close _ _ _ _ (c .before .before .before .before .before .loop-test .taken) e (c .before .before .before .before .before .before .loop .inv .0), omega arith)
+    let at-is-pair = c .before in
+    let at-byte-at = at-is-pair .before in
+    let at-loop-test = at-byte-at .before .before .before in
+    let at-loop = at-loop-test .before in
+    let e = rw (at-byte-at .byte-at .ensures) at (sym (at-is-pair .is-pair .ensures) ∙ c .if2 .taken) in
+    (block-close _ _ _ _ (at-loop-test .loop-test .taken) e (at-loop .loop .inv .0), omega arith)
 
 is-pair-requires-2 : tie.Need-is-pair-requires-2 Inv-loop μ-loop
 is-pair-requires-2 c κs = search needs
@@ -61,9 +65,14 @@ loop-less-2 c = search needs
 
 loop-again-2 : tie.Need-loop-again-2 Inv-loop μ-loop
 loop-again-2 c =
-    let e = rw (c .before .before .before .before .byte-at .ensures) at (sym (c .before .before .before .is-pair .ensures) ∙ c .before .before .if2 .left) in
-    let e′ = rw (c .before .before .before .before .byte-at .ensures) at (sym (c .before .is-pair2 .ensures) ∙ c .if3 .taken) in
-    let b = c .before .before .before .before .before .before .before in
+    let at-is-pair2 = c .before in
+    let at-if2 = at-is-pair2 .before in
+    let at-is-pair = at-if2 .before in
+    let at-byte-at = at-is-pair .before in
+    let at-start = at-byte-at .before .before .before in
+    let e = rw (at-byte-at .byte-at .ensures) at (sym (at-is-pair .is-pair .ensures) ∙ at-if2 .if2 .left) in
+    let e′ = rw (at-byte-at .byte-at .ensures) at (sym (at-is-pair2 .is-pair2 .ensures) ∙ c .if3 .taken) in
+    let b = at-start in
     (block-open _ _ _ _ (b .loop-test .taken) e e′ (b .before .loop .inv .0), omega arith)
 
 add-i-3 : tie.Need-add-i-3 Inv-loop μ-loop
@@ -74,9 +83,14 @@ loop-less-3 c = search needs
 
 loop-again-3 : tie.Need-loop-again-3 Inv-loop μ-loop
 loop-again-3 c =
-    let e = rw (c .before .before .before .before .byte-at .ensures) at (sym (c .before .before .before .is-pair .ensures) ∙ c .before .before .if2 .left) in
-    let e′ = rw (c .before .before .before .before .byte-at .ensures) at (sym (c .before .is-pair2 .ensures) ∙ c .if3 .left) in
-    let b = c .before .before .before .before .before .before .before in
+    let at-is-pair2 = c .before in
+    let at-if2 = at-is-pair2 .before in
+    let at-is-pair = at-if2 .before in
+    let at-byte-at = at-is-pair .before in
+    let at-start = at-byte-at .before .before .before in
+    let e = rw (at-byte-at .byte-at .ensures) at (sym (at-is-pair .is-pair .ensures) ∙ at-if2 .if2 .left) in
+    let e′ = rw (at-byte-at .byte-at .ensures) at (sym (at-is-pair2 .is-pair2 .ensures) ∙ c .if3 .left) in
+    let b = at-start in
     (block-next _ _ _ _ (b .loop-test .taken) (search needs) e e′ (b .before .loop .inv .0), omega arith)
 
 returns-2 : tie.Need-returns-2 Inv-loop μ-loop

@@ -49,11 +49,33 @@ add-result-2 c = search needs
 
 returns-3 : tie.Need-returns-3
 unfolding isDigit digit upper lower
-returns-3 c = rw (sym (c .before .before .before .before .before .is-within .ensures) ∙ c .before .before .before .before .if1 .left, sym (c .before .before .before .is-within2 .ensures) ∙ c .before .before .if2 .left, sym (c .before .is-within3 .ensures) ∙ c .if3 .taken)
+returns-3 c =
+    let at-is-within3 = c .before in
+    let at-if2 = at-is-within3 .before in
+    let at-is-within2 = at-if2 .before in
+    let at-if1 = at-is-within2 .before in
+    let at-is-within = at-if1 .before in
+    rw (
+      sym (at-is-within .is-within .ensures) ∙ at-if1 .if1 .left,
+      sym (at-is-within2 .is-within2 .ensures) ∙ at-if2 .if2 .left,
+      sym
+          (at-is-within3 .is-within3 .ensures) ∙ c .if3 .taken,
+    )
 
 returns-4 : tie.Need-returns-4
 unfolding isDigit digit upper lower
-returns-4 c = rw (sym (c .before .before .before .before .before .is-within .ensures) ∙ c .before .before .before .before .if1 .left, sym (c .before .before .before .is-within2 .ensures) ∙ c .before .before .if2 .left, sym (c .before .is-within3 .ensures) ∙ c .if3 .left)
+returns-4 c =
+    let at-is-within3 = c .before in
+    let at-if2 = at-is-within3 .before in
+    let at-is-within2 = at-if2 .before in
+    let at-if1 = at-is-within2 .before in
+    let at-is-within = at-if1 .before in
+    rw (
+      sym (at-is-within .is-within .ensures) ∙ at-if1 .if1 .left,
+      sym (at-is-within2 .is-within2 .ensures) ∙ at-if2 .if2 .left,
+      sym
+          (at-is-within3 .is-within3 .ensures) ∙ c .if3 .left,
+    )
 
 pub is-digit-spec : {M : Type 1} → statement M
 is-digit-spec =

@@ -53,9 +53,16 @@ loop-less c = search needs
 
 loop-again : tie.Need-loop-again Inv-loop μ-loop
 loop-again c =
-    string-next _ _ _ _ _ _ _ _ (c .before .before .before .before .before .before .before .loop-test .taken) (c .before .before .before .before .before .is-bare .ensures) _ _ _ _
-    (c .before .before .before .before .if1 .left) (c .before .before .before .is-line-end .ensures) (c .before .before .or .ensures) (c .before .is-bare2 .ensures) (c .and .ensures)
-    (c .before .before .before .before .before .before .before .before .loop .inv)
+    let at-is-bare2 = c .before in
+    let at-or = at-is-bare2 .before in
+    let at-is-line-end = at-or .before in
+    let at-if1 = at-is-line-end .before in
+    let at-is-bare = at-if1 .before in
+    let at-loop-test = at-is-bare .before .before in
+    let at-loop = at-loop-test .before in
+    string-next _ _ _ _ _ _ _ _ (at-loop-test .loop-test .taken) (at-is-bare .is-bare .ensures) _ _ _ _
+    (at-if1 .if1 .left) (at-is-line-end .is-line-end .ensures) (at-or .or .ensures) (at-is-bare2 .is-bare2 .ensures) (c .and .ensures)
+    (at-loop .loop .inv)
 
 returns-2 : tie.Need-returns-2 Inv-loop μ-loop
 returns-2 c = search (needs, string-over)

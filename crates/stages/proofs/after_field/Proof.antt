@@ -12,16 +12,28 @@ separate-requires : tie.Need-separate-requires
 separate-requires c κs = search needs
 
 same-length : tie.Need-same-length
-same-length c = c .before .before .before .before .before .before .separate .kept .1 .1 .1 .1 .0 ∙ c .before .before .before .before .before .before .before .before .before .before .before .before .before .before .before .before .before .push-child .kept .1 .1 .1 .1 .0
+same-length c =
+    let at-separate = c .before .before .before .before .before .before in
+    let at-push-child = at-separate .before .before .before .before .before .before .before .before .before .before .before in
+    at-separate .separate .kept .1 .1 .1 .1 .0 ∙ at-push-child .push-child .kept .1 .1 .1 .1 .0
 
 same-length-2 : tie.Need-same-length-2
-same-length-2 c = c .before .before .before .before .before .before .separate .kept .1 .1 .1 .1 .1 .0 ∙ c .before .before .before .before .before .before .before .before .before .before .before .before .before .before .before .before .before .push-child .kept .1 .1 .1 .1 .1 .0
+same-length-2 c =
+    let at-separate = c .before .before .before .before .before .before in
+    let at-push-child = at-separate .before .before .before .before .before .before .before .before .before .before .before in
+    at-separate .separate .kept .1 .1 .1 .1 .1 .0 ∙ at-push-child .push-child .kept .1 .1 .1 .1 .1 .0
 
 same-length-3 : tie.Need-same-length-3
-same-length-3 c = c .before .before .before .before .before .before .separate .kept .1 .1 .1 .1 .1 .1 .0 ∙ c .before .before .before .before .before .before .before .before .before .before .before .before .before .before .before .before .before .push-child .kept .1 .1 .1 .1 .1 .1 .0
+same-length-3 c =
+    let at-separate = c .before .before .before .before .before .before in
+    let at-push-child = at-separate .before .before .before .before .before .before .before .before .before .before .before in
+    at-separate .separate .kept .1 .1 .1 .1 .1 .1 .0 ∙ at-push-child .push-child .kept .1 .1 .1 .1 .1 .1 .0
 
 returns : tie.Need-returns
-returns c = then (c .before .before .before .before .before .before .before .before .before .before .before .before .before .before .before .before .before .push-child .ensures) (c .before .before .before .before .before .before .separate .ensures)
+returns c =
+    let at-separate = c .before .before .before .before .before .before in
+    let at-push-child = at-separate .before .before .before .before .before .before .before .before .before .before .before in
+    then (at-push-child .push-child .ensures) (at-separate .separate .ensures)
 
 pub after-field-spec : {M : Type 1} → statement M
 after-field-spec =

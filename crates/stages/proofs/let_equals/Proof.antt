@@ -12,16 +12,28 @@ expect-requires : tie.Need-expect-requires
 expect-requires c κs = search needs
 
 same-length : tie.Need-same-length
-same-length c = c .before .before .before .before .before .before .before .expect .kept .1 .1 .1 .1 .0 ∙ c .before .before .before .before .before .before .before .before .before .before .before .before .before .before .before .before .before .update-kind .kept .1 .1 .1 .1 .0
+same-length c =
+    let at-expect = c .before .before .before .before .before .before .before in
+    let at-update-kind = at-expect .before .before .before .before .before .before .before .before .before .before in
+    at-expect .expect .kept .1 .1 .1 .1 .0 ∙ at-update-kind .update-kind .kept .1 .1 .1 .1 .0
 
 same-length-2 : tie.Need-same-length-2
-same-length-2 c = c .before .before .before .before .before .before .before .expect .kept .1 .1 .1 .1 .1 .0 ∙ c .before .before .before .before .before .before .before .before .before .before .before .before .before .before .before .before .before .update-kind .kept .1 .1 .1 .1 .1 .0
+same-length-2 c =
+    let at-expect = c .before .before .before .before .before .before .before in
+    let at-update-kind = at-expect .before .before .before .before .before .before .before .before .before .before in
+    at-expect .expect .kept .1 .1 .1 .1 .1 .0 ∙ at-update-kind .update-kind .kept .1 .1 .1 .1 .1 .0
 
 same-length-3 : tie.Need-same-length-3
-same-length-3 c = c .before .before .before .before .before .before .before .expect .kept .1 .1 .1 .1 .1 .1 .0 ∙ c .before .before .before .before .before .before .before .before .before .before .before .before .before .before .before .before .before .update-kind .kept .1 .1 .1 .1 .1 .1 .0
+same-length-3 c =
+    let at-expect = c .before .before .before .before .before .before .before in
+    let at-update-kind = at-expect .before .before .before .before .before .before .before .before .before .before in
+    at-expect .expect .kept .1 .1 .1 .1 .1 .1 .0 ∙ at-update-kind .update-kind .kept .1 .1 .1 .1 .1 .1 .0
 
 returns : tie.Need-returns
-returns c = then (c .before .before .before .before .before .before .before .before .before .before .before .before .before .before .before .before .before .update-kind .ensures) (then (c .before .before .before .before .before .before .before .expect .ensures) gives)
+returns c =
+    let at-expect = c .before .before .before .before .before .before .before in
+    let at-update-kind = at-expect .before .before .before .before .before .before .before .before .before .before in
+    then (at-update-kind .update-kind .ensures) (then (at-expect .expect .ensures) gives)
 
 pub let-equals-spec : {M : Type 1} → statement M
 let-equals-spec =

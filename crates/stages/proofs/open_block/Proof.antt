@@ -15,16 +15,33 @@ open-here-requires : tie.Need-open-here-requires
 open-here-requires c κs = search needs
 
 same-length : tie.Need-same-length
-same-length c = c .before .before .before .before .before .before .before .before .before .open-here .kept .1 .1 .1 .1 .0 ∙ c .before .before .before .before .before .before .before .before .before .before .before .before .before .before .before .before .before .before .before .expect .kept .1 .1 .1 .1 .0 ∙ c .before .before .before .before .before .before .before .before .before .before .before .before .before .before .before .before .before .before .before .before .before .before .before .before .before .before .before .before .before .open-from .kept .1 .1 .1 .1 .0
+same-length c =
+    let at-open-here = c .before .before .before .before .before .before .before .before .before in
+    let at-expect = at-open-here .before .before .before .before .before .before .before .before .before .before in
+    let at-open-from = at-expect .before .before .before .before .before .before .before .before .before .before in
+    at-open-here .open-here .kept .1 .1 .1 .1 .0 ∙ at-expect .expect .kept .1 .1 .1 .1 .0 ∙ at-open-from .open-from .kept .1 .1 .1 .1 .0
 
 same-length-2 : tie.Need-same-length-2
-same-length-2 c = c .before .before .before .before .before .before .before .before .before .open-here .kept .1 .1 .1 .1 .1 .0 ∙ c .before .before .before .before .before .before .before .before .before .before .before .before .before .before .before .before .before .before .before .expect .kept .1 .1 .1 .1 .1 .0 ∙ c .before .before .before .before .before .before .before .before .before .before .before .before .before .before .before .before .before .before .before .before .before .before .before .before .before .before .before .before .before .open-from .kept .1 .1 .1 .1 .1 .0
+same-length-2 c =
+    let at-open-here = c .before .before .before .before .before .before .before .before .before in
+    let at-expect = at-open-here .before .before .before .before .before .before .before .before .before .before in
+    let at-open-from = at-expect .before .before .before .before .before .before .before .before .before .before in
+    at-open-here .open-here .kept .1 .1 .1 .1 .1 .0 ∙ at-expect .expect .kept .1 .1 .1 .1 .1 .0 ∙ at-open-from .open-from .kept .1 .1 .1 .1 .1 .0
 
 same-length-3 : tie.Need-same-length-3
-same-length-3 c = c .before .before .before .before .before .before .before .before .before .open-here .kept .1 .1 .1 .1 .1 .1 .0 ∙ c .before .before .before .before .before .before .before .before .before .before .before .before .before .before .before .before .before .before .before .expect .kept .1 .1 .1 .1 .1 .1 .0 ∙ c .before .before .before .before .before .before .before .before .before .before .before .before .before .before .before .before .before .before .before .before .before .before .before .before .before .before .before .before .before .open-from .kept .1 .1 .1 .1 .1 .1 .0
+same-length-3 c =
+    let at-open-here = c .before .before .before .before .before .before .before .before .before in
+    let at-expect = at-open-here .before .before .before .before .before .before .before .before .before .before in
+    let at-open-from = at-expect .before .before .before .before .before .before .before .before .before .before in
+    at-open-here .open-here .kept .1 .1 .1 .1 .1 .1 .0 ∙ at-expect .expect .kept .1 .1 .1 .1 .1 .1 .0
+    ∙ at-open-from .open-from .kept .1 .1 .1 .1 .1 .1 .0
 
 returns : tie.Need-returns
-returns c = then (c .before .before .before .before .before .before .before .before .before .before .before .before .before .before .before .before .before .before .before .before .before .before .before .before .before .before .before .before .before .open-from .ensures) (then (c .before .before .before .before .before .before .before .before .before .before .before .before .before .before .before .before .before .before .before .expect .ensures) (then (c .before .before .before .before .before .before .before .before .before .open-here .ensures) gives))
+returns c =
+    let at-open-here = c .before .before .before .before .before .before .before .before .before in
+    let at-expect = at-open-here .before .before .before .before .before .before .before .before .before .before in
+    let at-open-from = at-expect .before .before .before .before .before .before .before .before .before .before in
+    then (at-open-from .open-from .ensures) (then (at-expect .expect .ensures) (then (at-open-here .open-here .ensures) gives))
 
 pub open-block-spec : {M : Type 1} → statement M
 open-block-spec =

@@ -12,16 +12,28 @@ open-list-requires : tie.Need-open-list-requires
 open-list-requires c κs = search needs
 
 same-length : tie.Need-same-length
-same-length c = c .before .before .before .before .before .before .before .before .before .open-list .kept .1 .1 .1 .1 .0 ∙ c .before .before .before .before .before .before .before .before .before .before .before .before .before .before .before .before .before .before .before .push-option .kept .1 .1 .1 .1 .0
+same-length c =
+    let at-open-list = c .before .before .before .before .before .before .before .before .before in
+    let at-push-option = at-open-list .before .before .before .before .before .before .before .before .before .before in
+    at-open-list .open-list .kept .1 .1 .1 .1 .0 ∙ at-push-option .push-option .kept .1 .1 .1 .1 .0
 
 same-length-2 : tie.Need-same-length-2
-same-length-2 c = c .before .before .before .before .before .before .before .before .before .open-list .kept .1 .1 .1 .1 .1 .0 ∙ c .before .before .before .before .before .before .before .before .before .before .before .before .before .before .before .before .before .before .before .push-option .kept .1 .1 .1 .1 .1 .0
+same-length-2 c =
+    let at-open-list = c .before .before .before .before .before .before .before .before .before in
+    let at-push-option = at-open-list .before .before .before .before .before .before .before .before .before .before in
+    at-open-list .open-list .kept .1 .1 .1 .1 .1 .0 ∙ at-push-option .push-option .kept .1 .1 .1 .1 .1 .0
 
 same-length-3 : tie.Need-same-length-3
-same-length-3 c = c .before .before .before .before .before .before .before .before .before .open-list .kept .1 .1 .1 .1 .1 .1 .0 ∙ c .before .before .before .before .before .before .before .before .before .before .before .before .before .before .before .before .before .before .before .push-option .kept .1 .1 .1 .1 .1 .1 .0
+same-length-3 c =
+    let at-open-list = c .before .before .before .before .before .before .before .before .before in
+    let at-push-option = at-open-list .before .before .before .before .before .before .before .before .before .before in
+    at-open-list .open-list .kept .1 .1 .1 .1 .1 .1 .0 ∙ at-push-option .push-option .kept .1 .1 .1 .1 .1 .1 .0
 
 returns : tie.Need-returns
-returns c = then (c .before .before .before .before .before .before .before .before .before .before .before .before .before .before .before .before .before .before .before .push-option .ensures) (then (c .before .before .before .before .before .before .before .before .before .open-list .ensures) gives)
+returns c =
+    let at-open-list = c .before .before .before .before .before .before .before .before .before in
+    let at-push-option = at-open-list .before .before .before .before .before .before .before .before .before .before in
+    then (at-push-option .push-option .ensures) (then (at-open-list .open-list .ensures) gives)
 
 pub open-body-spec : {M : Type 1} → statement M
 open-body-spec =

@@ -24,16 +24,46 @@ eat-requires-2 : tie.Need-eat-requires-2
 eat-requires-2 c κs = search needs
 
 same-length : tie.Need-same-length
-same-length c = c .before .before .before .before .before .before .before .before .eat2 .kept .1 .1 .1 .1 .0 ∙ c .before .before .before .before .before .before .before .before .before .before .before .before .before .before .before .before .before .before .push-child .kept .1 .1 .1 .1 .0 ∙ c .before .before .before .before .before .before .before .before .before .before .before .before .before .before .before .before .before .before .before .before .before .before .before .before .before .before .before .before .expect-ident .kept .1 .1 .1 .1 .0 ∙ c .before .before .before .before .before .before .before .before .before .before .before .before .before .before .before .before .before .before .before .before .before .before .before .before .before .before .before .before .before .before .before .before .before .before .before .before .before .before .open-from .kept .1 .1 .1 .1 .0 ∙ c .before .before .before .before .before .before .before .before .before .before .before .before .before .before .before .before .before .before .before .before .before .before .before .before .before .before .before .before .before .before .before .before .before .before .before .before .before .before .before .before .before .before .before .before .before .before .before .before .before .eat .kept .1 .1 .1 .1 .0
+same-length c =
+    let at-eat2 = c .before .before .before .before .before .before .before .before in
+    let at-push-child = at-eat2 .before .before .before .before .before .before .before .before .before .before in
+    let at-expect-ident = at-push-child .before .before .before .before .before .before .before .before .before .before in
+    let at-open-from = at-expect-ident .before .before .before .before .before .before .before .before .before .before in
+    let at-eat = at-open-from .before .before .before .before .before .before .before .before .before .before .before in
+    at-eat2 .eat2 .kept .1 .1 .1 .1 .0 ∙ at-push-child .push-child .kept .1 .1 .1 .1 .0 ∙ at-expect-ident .expect-ident .kept .1 .1 .1 .1 .0
+    ∙ at-open-from .open-from .kept .1 .1 .1 .1 .0 ∙ at-eat .eat .kept .1 .1 .1 .1 .0
 
 same-length-2 : tie.Need-same-length-2
-same-length-2 c = c .before .before .before .before .before .before .before .before .eat2 .kept .1 .1 .1 .1 .1 .0 ∙ c .before .before .before .before .before .before .before .before .before .before .before .before .before .before .before .before .before .before .push-child .kept .1 .1 .1 .1 .1 .0 ∙ c .before .before .before .before .before .before .before .before .before .before .before .before .before .before .before .before .before .before .before .before .before .before .before .before .before .before .before .before .expect-ident .kept .1 .1 .1 .1 .1 .0 ∙ c .before .before .before .before .before .before .before .before .before .before .before .before .before .before .before .before .before .before .before .before .before .before .before .before .before .before .before .before .before .before .before .before .before .before .before .before .before .before .open-from .kept .1 .1 .1 .1 .1 .0 ∙ c .before .before .before .before .before .before .before .before .before .before .before .before .before .before .before .before .before .before .before .before .before .before .before .before .before .before .before .before .before .before .before .before .before .before .before .before .before .before .before .before .before .before .before .before .before .before .before .before .before .eat .kept .1 .1 .1 .1 .1 .0
+same-length-2 c =
+    let at-eat2 = c .before .before .before .before .before .before .before .before in
+    let at-push-child = at-eat2 .before .before .before .before .before .before .before .before .before .before in
+    let at-expect-ident = at-push-child .before .before .before .before .before .before .before .before .before .before in
+    let at-open-from = at-expect-ident .before .before .before .before .before .before .before .before .before .before in
+    let at-eat = at-open-from .before .before .before .before .before .before .before .before .before .before .before in
+    at-eat2 .eat2 .kept .1 .1 .1 .1 .1 .0 ∙ at-push-child .push-child .kept .1 .1 .1 .1 .1 .0 ∙ at-expect-ident .expect-ident .kept .1 .1 .1 .1 .1 .0
+    ∙ at-open-from .open-from .kept .1 .1 .1 .1 .1 .0 ∙ at-eat .eat .kept .1 .1 .1 .1 .1 .0
 
 same-length-3 : tie.Need-same-length-3
-same-length-3 c = c .before .before .before .before .before .before .before .before .eat2 .kept .1 .1 .1 .1 .1 .1 .0 ∙ c .before .before .before .before .before .before .before .before .before .before .before .before .before .before .before .before .before .before .push-child .kept .1 .1 .1 .1 .1 .1 .0 ∙ c .before .before .before .before .before .before .before .before .before .before .before .before .before .before .before .before .before .before .before .before .before .before .before .before .before .before .before .before .expect-ident .kept .1 .1 .1 .1 .1 .1 .0 ∙ c .before .before .before .before .before .before .before .before .before .before .before .before .before .before .before .before .before .before .before .before .before .before .before .before .before .before .before .before .before .before .before .before .before .before .before .before .before .before .open-from .kept .1 .1 .1 .1 .1 .1 .0 ∙ c .before .before .before .before .before .before .before .before .before .before .before .before .before .before .before .before .before .before .before .before .before .before .before .before .before .before .before .before .before .before .before .before .before .before .before .before .before .before .before .before .before .before .before .before .before .before .before .before .before .eat .kept .1 .1 .1 .1 .1 .1 .0
+same-length-3 c =
+    let at-eat2 = c .before .before .before .before .before .before .before .before in
+    let at-push-child = at-eat2 .before .before .before .before .before .before .before .before .before .before in
+    let at-expect-ident = at-push-child .before .before .before .before .before .before .before .before .before .before in
+    let at-open-from = at-expect-ident .before .before .before .before .before .before .before .before .before .before in
+    let at-eat = at-open-from .before .before .before .before .before .before .before .before .before .before .before in
+    at-eat2 .eat2 .kept .1 .1 .1 .1 .1 .1 .0 ∙ at-push-child .push-child .kept .1 .1 .1 .1 .1 .1 .0
+    ∙ at-expect-ident .expect-ident .kept .1 .1 .1 .1 .1 .1 .0 ∙ at-open-from .open-from .kept .1 .1 .1 .1 .1 .1 .0
+    ∙ at-eat .eat .kept .1 .1 .1 .1 .1 .1 .0
 
 returns : tie.Need-returns
-returns c = then (c .before .before .before .before .before .before .before .before .before .before .before .before .before .before .before .before .before .before .before .before .before .before .before .before .before .before .before .before .before .before .before .before .before .before .before .before .before .before .before .before .before .before .before .before .before .before .before .before .before .eat .ensures) (then (rw (c .before .before .before .before .before .before .before .before .before .before .before .before .before .before .before .before .before .before .before .before .before .before .before .before .before .before .before .before .before .before .before .before .before .before .before .before .before .before .before .before .before .before .let-flags .ensures) at (c .before .before .before .before .before .before .before .before .before .before .before .before .before .before .before .before .before .before .before .before .before .before .before .before .before .before .before .before .before .before .before .before .before .before .before .before .before .before .open-from .ensures)) (then (c .before .before .before .before .before .before .before .before .before .before .before .before .before .before .before .before .before .before .before .before .before .before .before .before .before .before .before .before .expect-ident .ensures) (then (c .before .before .before .before .before .before .before .before .before .before .before .before .before .before .before .before .before .before .push-child .ensures) (then (c .before .before .before .before .before .before .before .before .eat2 .ensures) gives))))
+returns c =
+    let at-eat2 = c .before .before .before .before .before .before .before .before in
+    let at-push-child = at-eat2 .before .before .before .before .before .before .before .before .before .before in
+    let at-expect-ident = at-push-child .before .before .before .before .before .before .before .before .before .before in
+    let at-open-from = at-expect-ident .before .before .before .before .before .before .before .before .before .before in
+    let at-let-flags = at-open-from .before .before .before .before in
+    let at-eat = at-let-flags .before .before .before .before .before .before .before in
+    then (at-eat .eat .ensures) (then (rw (at-let-flags .let-flags .ensures) at (at-open-from .open-from .ensures))
+    (then (at-expect-ident .expect-ident .ensures) (then (at-push-child .push-child .ensures) (then (at-eat2 .eat2 .ensures) gives))))
 
 pub open-let-spec : {M : Type 1} → statement M
 open-let-spec =

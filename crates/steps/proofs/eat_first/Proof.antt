@@ -3,7 +3,7 @@ use mathlib.Core.Path.{_≡_, refl, _∙_}
 use borrow.Author.Needs.{needs}
 use native.Mathlib.Omega.{arith}
 use lib.ListN.{length}
-use Prim.Native.Nat.{_-_, _≤_}
+use Prim.Native.Nat.{_-_}
 use Rattle.definition.specs.Prog.{memory}
 use Rattle.answers.specs.Laws.{Trying, tries-first, tries-none, tries-this, tries-next}
 use Rattle.steps.proofs.eat_first.Statement.{statement}
@@ -30,18 +30,25 @@ eat-requires : tie.Need-eat-requires Inv-loop μ-loop
 eat-requires c κs = search needs
 
 add-i : tie.Need-add-i Inv-loop μ-loop
-add-i c = omega (arith, c .before .before .before .before .before .before .before .before .before .before .before .before .before .loop-test .taken, mul-token (c .before .before .before .before .before .before .before .before .before .before .before .before .before))
+add-i c =
+    let at-loop-test = c .before .before .before .before .before .before .before .before .before .before .before .before .before in
+    omega (arith, at-loop-test .loop-test .taken, mul-token at-loop-test)
 
 loop-less : tie.Need-loop-less Inv-loop μ-loop
-loop-less c = omega (arith, c .before .before .before .before .before .before .before .before .before .before .before .before .before .loop-test .taken)
+loop-less c =
+    let at-loop-test = c .before .before .before .before .before .before .before .before .before .before .before .before .before in
+    omega (arith, at-loop-test .loop-test .taken)
 
 loop-again : tie.Need-loop-again Inv-loop μ-loop
-loop-again c = (
-  tries-next (c .before .before .before .before .before .before .before .before .before .before .before .before .before .before .loop .inv .0) (c .before .before .before .before .before .before .before .before .before .before .before .before .before .loop-test .taken) refl (c .before .before .before .before .before .before .before .before .eat .ensures) (c .if1 .left),
-  c .before .before .before .before .before .before .before .before .eat .kept .1 .1 .1 .1 .0 ∙ c .before .before .before .before .before .before .before .before .before .before .before .before .before .before .loop .inv .1,
-  c .before .before .before .before .before .before .before .before .eat .kept .1 .1 .1 .1 .1 .0 ∙ c .before .before .before .before .before .before .before .before .before .before .before .before .before .before .loop .inv .2,
-  c .before .before .before .before .before .before .before .before .eat .kept .1 .1 .1 .1 .1 .1 .0 ∙ c .before .before .before .before .before .before .before .before .before .before .before .before .before .before .loop .inv .3,
-)
+loop-again c =
+    let at-eat = c .before .before .before .before .before .before .before .before in
+    let at-loop-test = at-eat .before .before .before .before .before in
+    let at-loop = at-loop-test .before in (
+      tries-next (at-loop .loop .inv .0) (at-loop-test .loop-test .taken) refl (at-eat .eat .ensures) (c .if1 .left),
+      at-eat .eat .kept .1 .1 .1 .1 .0 ∙ at-loop .loop .inv .1,
+      at-eat .eat .kept .1 .1 .1 .1 .1 .0 ∙ at-loop .loop .inv .2,
+      at-eat .eat .kept .1 .1 .1 .1 .1 .1 .0 ∙ at-loop .loop .inv .3,
+    )
 
 same-length : tie.Need-same-length Inv-loop μ-loop
 same-length c = c .before .loop .inv .1
@@ -56,16 +63,29 @@ returns : tie.Need-returns Inv-loop μ-loop
 returns c = tries-none (c .before .loop .inv .0) (c .loop-test .left)
 
 same-length-4 : tie.Need-same-length-4 Inv-loop μ-loop
-same-length-4 c = c .before .before .before .before .before .before .before .before .eat .kept .1 .1 .1 .1 .0 ∙ c .before .before .before .before .before .before .before .before .before .before .before .before .before .before .loop .inv .1
+same-length-4 c =
+    let at-eat = c .before .before .before .before .before .before .before .before in
+    let at-loop = at-eat .before .before .before .before .before .before in
+    at-eat .eat .kept .1 .1 .1 .1 .0 ∙ at-loop .loop .inv .1
 
 same-length-5 : tie.Need-same-length-5 Inv-loop μ-loop
-same-length-5 c = c .before .before .before .before .before .before .before .before .eat .kept .1 .1 .1 .1 .1 .0 ∙ c .before .before .before .before .before .before .before .before .before .before .before .before .before .before .loop .inv .2
+same-length-5 c =
+    let at-eat = c .before .before .before .before .before .before .before .before in
+    let at-loop = at-eat .before .before .before .before .before .before in
+    at-eat .eat .kept .1 .1 .1 .1 .1 .0 ∙ at-loop .loop .inv .2
 
 same-length-6 : tie.Need-same-length-6 Inv-loop μ-loop
-same-length-6 c = c .before .before .before .before .before .before .before .before .eat .kept .1 .1 .1 .1 .1 .1 .0 ∙ c .before .before .before .before .before .before .before .before .before .before .before .before .before .before .loop .inv .3
+same-length-6 c =
+    let at-eat = c .before .before .before .before .before .before .before .before in
+    let at-loop = at-eat .before .before .before .before .before .before in
+    at-eat .eat .kept .1 .1 .1 .1 .1 .1 .0 ∙ at-loop .loop .inv .3
 
 returns-2 : tie.Need-returns-2 Inv-loop μ-loop
-returns-2 c = tries-this (c .before .before .before .before .before .before .before .before .before .before .before .before .before .before .loop .inv .0) (c .before .before .before .before .before .before .before .before .before .before .before .before .before .loop-test .taken) refl (c .before .before .before .before .before .before .before .before .eat .ensures) (c .if1 .taken)
+returns-2 c =
+    let at-eat = c .before .before .before .before .before .before .before .before in
+    let at-loop-test = at-eat .before .before .before .before .before in
+    let at-loop = at-loop-test .before in
+    tries-this (at-loop .loop .inv .0) (at-loop-test .loop-test .taken) refl (at-eat .eat .ensures) (c .if1 .taken)
 
 pub eat-first-spec : {M : Type 1} → statement M
 eat-first-spec =

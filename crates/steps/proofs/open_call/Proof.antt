@@ -15,16 +15,33 @@ expect-requires : tie.Need-expect-requires
 expect-requires c κs = search needs
 
 same-length : tie.Need-same-length
-same-length c = c .before .before .before .before .before .before .before .before .expect .kept .1 .1 .1 .1 .0 ∙ c .before .before .before .before .before .before .before .before .before .before .before .before .before .before .before .before .before .before .push-child .kept .1 .1 .1 .1 .0 ∙ c .before .before .before .before .before .before .before .before .before .before .before .before .before .before .before .before .before .before .before .before .before .before .before .before .before .before .before .before .open-from .kept .1 .1 .1 .1 .0
+same-length c =
+    let at-expect = c .before .before .before .before .before .before .before .before in
+    let at-push-child = at-expect .before .before .before .before .before .before .before .before .before .before in
+    let at-open-from = at-push-child .before .before .before .before .before .before .before .before .before .before in
+    at-expect .expect .kept .1 .1 .1 .1 .0 ∙ at-push-child .push-child .kept .1 .1 .1 .1 .0 ∙ at-open-from .open-from .kept .1 .1 .1 .1 .0
 
 same-length-2 : tie.Need-same-length-2
-same-length-2 c = c .before .before .before .before .before .before .before .before .expect .kept .1 .1 .1 .1 .1 .0 ∙ c .before .before .before .before .before .before .before .before .before .before .before .before .before .before .before .before .before .before .push-child .kept .1 .1 .1 .1 .1 .0 ∙ c .before .before .before .before .before .before .before .before .before .before .before .before .before .before .before .before .before .before .before .before .before .before .before .before .before .before .before .before .open-from .kept .1 .1 .1 .1 .1 .0
+same-length-2 c =
+    let at-expect = c .before .before .before .before .before .before .before .before in
+    let at-push-child = at-expect .before .before .before .before .before .before .before .before .before .before in
+    let at-open-from = at-push-child .before .before .before .before .before .before .before .before .before .before in
+    at-expect .expect .kept .1 .1 .1 .1 .1 .0 ∙ at-push-child .push-child .kept .1 .1 .1 .1 .1 .0 ∙ at-open-from .open-from .kept .1 .1 .1 .1 .1 .0
 
 same-length-3 : tie.Need-same-length-3
-same-length-3 c = c .before .before .before .before .before .before .before .before .expect .kept .1 .1 .1 .1 .1 .1 .0 ∙ c .before .before .before .before .before .before .before .before .before .before .before .before .before .before .before .before .before .before .push-child .kept .1 .1 .1 .1 .1 .1 .0 ∙ c .before .before .before .before .before .before .before .before .before .before .before .before .before .before .before .before .before .before .before .before .before .before .before .before .before .before .before .before .open-from .kept .1 .1 .1 .1 .1 .1 .0
+same-length-3 c =
+    let at-expect = c .before .before .before .before .before .before .before .before in
+    let at-push-child = at-expect .before .before .before .before .before .before .before .before .before .before in
+    let at-open-from = at-push-child .before .before .before .before .before .before .before .before .before .before in
+    at-expect .expect .kept .1 .1 .1 .1 .1 .1 .0 ∙ at-push-child .push-child .kept .1 .1 .1 .1 .1 .1 .0
+    ∙ at-open-from .open-from .kept .1 .1 .1 .1 .1 .1 .0
 
 returns : tie.Need-returns
-returns c = then (c .before .before .before .before .before .before .before .before .before .before .before .before .before .before .before .before .before .before .before .before .before .before .before .before .before .before .before .before .open-from .ensures) (then (c .before .before .before .before .before .before .before .before .before .before .before .before .before .before .before .before .before .before .push-child .ensures) (then (c .before .before .before .before .before .before .before .before .expect .ensures) gives))
+returns c =
+    let at-expect = c .before .before .before .before .before .before .before .before in
+    let at-push-child = at-expect .before .before .before .before .before .before .before .before .before .before in
+    let at-open-from = at-push-child .before .before .before .before .before .before .before .before .before .before in
+    then (at-open-from .open-from .ensures) (then (at-push-child .push-child .ensures) (then (at-expect .expect .ensures) gives))
 
 pub open-call-spec : {M : Type 1} → statement M
 open-call-spec =

@@ -10,16 +10,25 @@ open-from-requires : tie.Need-open-from-requires
 open-from-requires c κs = search needs
 
 same-length : tie.Need-same-length
-same-length c = c .before .before .before .before .before .before .open-from .kept .1 .1 .1 .1 .0
+same-length c =
+    let at-open-from = c .before .before .before .before .before .before in
+    at-open-from .open-from .kept .1 .1 .1 .1 .0
 
 same-length-2 : tie.Need-same-length-2
-same-length-2 c = c .before .before .before .before .before .before .open-from .kept .1 .1 .1 .1 .1 .0
+same-length-2 c =
+    let at-open-from = c .before .before .before .before .before .before in
+    at-open-from .open-from .kept .1 .1 .1 .1 .1 .0
 
 same-length-3 : tie.Need-same-length-3
-same-length-3 c = c .before .before .before .before .before .before .open-from .kept .1 .1 .1 .1 .1 .1 .0
+same-length-3 c =
+    let at-open-from = c .before .before .before .before .before .before in
+    at-open-from .open-from .kept .1 .1 .1 .1 .1 .1 .0
 
 returns : tie.Need-returns
-returns c = rw (c .before .before .before .before .before .before .before .before .before .before .flag .ensures) at (c .before .before .before .before .before .before .open-from .ensures)
+returns c =
+    let at-open-from = c .before .before .before .before .before .before in
+    let at-flag = at-open-from .before .before .before .before in
+    rw (at-flag .flag .ensures) at (at-open-from .open-from .ensures)
 
 pub open-fn-spec : {M : Type 1} → statement M
 open-fn-spec =

@@ -15,28 +15,60 @@ update-kind-requires : tie.Need-update-kind-requires
 update-kind-requires c κs = search needs
 
 same-length : tie.Need-same-length
-same-length c = c .before .before .before .before .before .before .update-kind .kept .1 .1 .1 .1 .0 ∙ c .before .before .before .before .before .before .before .before .before .before .before .before .before .before .before .before .before .before .eat .kept .1 .1 .1 .1 .0 ∙ c .before .before .before .before .before .before .before .before .before .before .before .before .before .before .before .before .before .before .before .before .before .before .before .before .before .before .before .before .push-child .kept .1 .1 .1 .1 .0
+same-length c =
+    let at-update-kind = c .before .before .before .before .before .before in
+    let at-eat = at-update-kind .before .before .before .before .before .before .before .before .before .before .before .before in
+    let at-push-child = at-eat .before .before .before .before .before .before .before .before .before .before in
+    at-update-kind .update-kind .kept .1 .1 .1 .1 .0 ∙ at-eat .eat .kept .1 .1 .1 .1 .0 ∙ at-push-child .push-child .kept .1 .1 .1 .1 .0
 
 same-length-2 : tie.Need-same-length-2
-same-length-2 c = c .before .before .before .before .before .before .update-kind .kept .1 .1 .1 .1 .1 .0 ∙ c .before .before .before .before .before .before .before .before .before .before .before .before .before .before .before .before .before .before .eat .kept .1 .1 .1 .1 .1 .0 ∙ c .before .before .before .before .before .before .before .before .before .before .before .before .before .before .before .before .before .before .before .before .before .before .before .before .before .before .before .before .push-child .kept .1 .1 .1 .1 .1 .0
+same-length-2 c =
+    let at-update-kind = c .before .before .before .before .before .before in
+    let at-eat = at-update-kind .before .before .before .before .before .before .before .before .before .before .before .before in
+    let at-push-child = at-eat .before .before .before .before .before .before .before .before .before .before in
+    at-update-kind .update-kind .kept .1 .1 .1 .1 .1 .0 ∙ at-eat .eat .kept .1 .1 .1 .1 .1 .0 ∙ at-push-child .push-child .kept .1 .1 .1 .1 .1 .0
 
 same-length-3 : tie.Need-same-length-3
-same-length-3 c = c .before .before .before .before .before .before .update-kind .kept .1 .1 .1 .1 .1 .1 .0 ∙ c .before .before .before .before .before .before .before .before .before .before .before .before .before .before .before .before .before .before .eat .kept .1 .1 .1 .1 .1 .1 .0 ∙ c .before .before .before .before .before .before .before .before .before .before .before .before .before .before .before .before .before .before .before .before .before .before .before .before .before .before .before .before .push-child .kept .1 .1 .1 .1 .1 .1 .0
+same-length-3 c =
+    let at-update-kind = c .before .before .before .before .before .before in
+    let at-eat = at-update-kind .before .before .before .before .before .before .before .before .before .before .before .before in
+    let at-push-child = at-eat .before .before .before .before .before .before .before .before .before .before in
+    at-update-kind .update-kind .kept .1 .1 .1 .1 .1 .1 .0 ∙ at-eat .eat .kept .1 .1 .1 .1 .1 .1 .0
+    ∙ at-push-child .push-child .kept .1 .1 .1 .1 .1 .1 .0
 
 returns : tie.Need-returns
-returns c = then (c .before .before .before .before .before .before .before .before .before .before .before .before .before .before .before .before .before .before .before .before .before .before .before .before .before .before .before .before .push-child .ensures) (then (c .before .before .before .before .before .before .before .before .before .before .before .before .before .before .before .before .before .before .eat .ensures) (then (when-true (c .before .before .before .before .before .before .before .before .before .before .if1 .taken) (c .before .before .before .before .before .before .update-kind .ensures)) gives))
+returns c =
+    let at-update-kind = c .before .before .before .before .before .before in
+    let at-if1 = at-update-kind .before .before .before .before in
+    let at-eat = at-if1 .before .before .before .before .before .before .before .before in
+    let at-push-child = at-eat .before .before .before .before .before .before .before .before .before .before in
+    then (at-push-child .push-child .ensures) (then (at-eat .eat .ensures)
+    (then (when-true (at-if1 .if1 .taken) (at-update-kind .update-kind .ensures)) gives))
 
 same-length-4 : tie.Need-same-length-4
-same-length-4 c = c .before .before .before .before .before .before .before .before .before .eat .kept .1 .1 .1 .1 .0 ∙ c .before .before .before .before .before .before .before .before .before .before .before .before .before .before .before .before .before .before .before .push-child .kept .1 .1 .1 .1 .0
+same-length-4 c =
+    let at-eat = c .before .before .before .before .before .before .before .before .before in
+    let at-push-child = at-eat .before .before .before .before .before .before .before .before .before .before in
+    at-eat .eat .kept .1 .1 .1 .1 .0 ∙ at-push-child .push-child .kept .1 .1 .1 .1 .0
 
 same-length-5 : tie.Need-same-length-5
-same-length-5 c = c .before .before .before .before .before .before .before .before .before .eat .kept .1 .1 .1 .1 .1 .0 ∙ c .before .before .before .before .before .before .before .before .before .before .before .before .before .before .before .before .before .before .before .push-child .kept .1 .1 .1 .1 .1 .0
+same-length-5 c =
+    let at-eat = c .before .before .before .before .before .before .before .before .before in
+    let at-push-child = at-eat .before .before .before .before .before .before .before .before .before .before in
+    at-eat .eat .kept .1 .1 .1 .1 .1 .0 ∙ at-push-child .push-child .kept .1 .1 .1 .1 .1 .0
 
 same-length-6 : tie.Need-same-length-6
-same-length-6 c = c .before .before .before .before .before .before .before .before .before .eat .kept .1 .1 .1 .1 .1 .1 .0 ∙ c .before .before .before .before .before .before .before .before .before .before .before .before .before .before .before .before .before .before .before .push-child .kept .1 .1 .1 .1 .1 .1 .0
+same-length-6 c =
+    let at-eat = c .before .before .before .before .before .before .before .before .before in
+    let at-push-child = at-eat .before .before .before .before .before .before .before .before .before .before in
+    at-eat .eat .kept .1 .1 .1 .1 .1 .1 .0 ∙ at-push-child .push-child .kept .1 .1 .1 .1 .1 .1 .0
 
 returns-2 : tie.Need-returns-2
-returns-2 c = then (c .before .before .before .before .before .before .before .before .before .before .before .before .before .before .before .before .before .before .before .push-child .ensures) (then (c .before .before .before .before .before .before .before .before .before .eat .ensures) (then (when-false (c .before .if1 .left) gives) gives))
+returns-2 c =
+    let at-if1 = c .before in
+    let at-eat = at-if1 .before .before .before .before .before .before .before .before in
+    let at-push-child = at-eat .before .before .before .before .before .before .before .before .before .before in
+    then (at-push-child .push-child .ensures) (then (at-eat .eat .ensures) (then (when-false (at-if1 .if1 .left) gives) gives))
 
 pub paren-comma-spec : {M : Type 1} → statement M
 paren-comma-spec =

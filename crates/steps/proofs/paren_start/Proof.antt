@@ -15,31 +15,62 @@ close-node-requires : tie.Need-close-node-requires
 close-node-requires c κs = search needs
 
 same-length : tie.Need-same-length
-same-length c = c .before .before .before .before .before .before .before .close-node .kept .1 .1 .1 .1 .0 ∙ c .before .before .before .before .before .before .before .before .before .before .before .before .before .before .before .before .before .open-from .kept .1 .1 .1 .1 .0 ∙ c .before .before .before .before .before .before .before .before .before .before .before .before .before .before .before .before .before .before .before .before .before .before .before .before .before .before .before .before .eat .kept .1 .1 .1 .1 .0
+same-length c =
+    let at-close-node = c .before .before .before .before .before .before .before in
+    let at-open-from = at-close-node .before .before .before .before .before .before .before .before .before .before in
+    let at-eat = at-open-from .before .before .before .before .before .before .before .before .before .before .before in
+    at-close-node .close-node .kept .1 .1 .1 .1 .0 ∙ at-open-from .open-from .kept .1 .1 .1 .1 .0 ∙ at-eat .eat .kept .1 .1 .1 .1 .0
 
 same-length-2 : tie.Need-same-length-2
-same-length-2 c = c .before .before .before .before .before .before .before .close-node .kept .1 .1 .1 .1 .1 .0 ∙ c .before .before .before .before .before .before .before .before .before .before .before .before .before .before .before .before .before .open-from .kept .1 .1 .1 .1 .1 .0 ∙ c .before .before .before .before .before .before .before .before .before .before .before .before .before .before .before .before .before .before .before .before .before .before .before .before .before .before .before .before .eat .kept .1 .1 .1 .1 .1 .0
+same-length-2 c =
+    let at-close-node = c .before .before .before .before .before .before .before in
+    let at-open-from = at-close-node .before .before .before .before .before .before .before .before .before .before in
+    let at-eat = at-open-from .before .before .before .before .before .before .before .before .before .before .before in
+    at-close-node .close-node .kept .1 .1 .1 .1 .1 .0 ∙ at-open-from .open-from .kept .1 .1 .1 .1 .1 .0 ∙ at-eat .eat .kept .1 .1 .1 .1 .1 .0
 
 same-length-3 : tie.Need-same-length-3
-same-length-3 c = c .before .before .before .before .before .before .before .close-node .kept .1 .1 .1 .1 .1 .1 .0 ∙ c .before .before .before .before .before .before .before .before .before .before .before .before .before .before .before .before .before .open-from .kept .1 .1 .1 .1 .1 .1 .0 ∙ c .before .before .before .before .before .before .before .before .before .before .before .before .before .before .before .before .before .before .before .before .before .before .before .before .before .before .before .before .eat .kept .1 .1 .1 .1 .1 .1 .0
+same-length-3 c =
+    let at-close-node = c .before .before .before .before .before .before .before in
+    let at-open-from = at-close-node .before .before .before .before .before .before .before .before .before .before in
+    let at-eat = at-open-from .before .before .before .before .before .before .before .before .before .before .before in
+    at-close-node .close-node .kept .1 .1 .1 .1 .1 .1 .0 ∙ at-open-from .open-from .kept .1 .1 .1 .1 .1 .1 .0 ∙ at-eat .eat .kept .1 .1 .1 .1 .1 .1 .0
 
 returns : tie.Need-returns
-returns c = then (c .before .before .before .before .before .before .before .before .before .before .before .before .before .before .before .before .before .before .before .before .before .before .before .before .before .before .before .before .eat .ensures) (when-true (c .before .before .before .before .before .before .before .before .before .before .before .before .before .before .before .before .before .before .before .before .before .if1 .taken) (then (c .before .before .before .before .before .before .before .before .before .before .before .before .before .before .before .before .before .open-from .ensures) (then (c .before .before .before .before .before .before .before .close-node .ensures) gives)))
+returns c =
+    let at-close-node = c .before .before .before .before .before .before .before in
+    let at-open-from = at-close-node .before .before .before .before .before .before .before .before .before .before in
+    let at-if1 = at-open-from .before .before .before .before in
+    let at-eat = at-if1 .before .before .before .before .before .before .before in
+    then (at-eat .eat .ensures) (when-true (at-if1 .if1 .taken)
+    (then (at-open-from .open-from .ensures) (then (at-close-node .close-node .ensures) gives)))
 
 open-from-requires-2 : tie.Need-open-from-requires-2
 open-from-requires-2 c κs = search needs
 
 same-length-4 : tie.Need-same-length-4
-same-length-4 c = c .before .before .before .before .before .before .before .before .open-from2 .kept .1 .1 .1 .1 .0 ∙ c .before .before .before .before .before .before .before .before .before .before .before .before .before .before .before .before .before .before .before .eat .kept .1 .1 .1 .1 .0
+same-length-4 c =
+    let at-open-from2 = c .before .before .before .before .before .before .before .before in
+    let at-eat = at-open-from2 .before .before .before .before .before .before .before .before .before .before .before in
+    at-open-from2 .open-from2 .kept .1 .1 .1 .1 .0 ∙ at-eat .eat .kept .1 .1 .1 .1 .0
 
 same-length-5 : tie.Need-same-length-5
-same-length-5 c = c .before .before .before .before .before .before .before .before .open-from2 .kept .1 .1 .1 .1 .1 .0 ∙ c .before .before .before .before .before .before .before .before .before .before .before .before .before .before .before .before .before .before .before .eat .kept .1 .1 .1 .1 .1 .0
+same-length-5 c =
+    let at-open-from2 = c .before .before .before .before .before .before .before .before in
+    let at-eat = at-open-from2 .before .before .before .before .before .before .before .before .before .before .before in
+    at-open-from2 .open-from2 .kept .1 .1 .1 .1 .1 .0 ∙ at-eat .eat .kept .1 .1 .1 .1 .1 .0
 
 same-length-6 : tie.Need-same-length-6
-same-length-6 c = c .before .before .before .before .before .before .before .before .open-from2 .kept .1 .1 .1 .1 .1 .1 .0 ∙ c .before .before .before .before .before .before .before .before .before .before .before .before .before .before .before .before .before .before .before .eat .kept .1 .1 .1 .1 .1 .1 .0
+same-length-6 c =
+    let at-open-from2 = c .before .before .before .before .before .before .before .before in
+    let at-eat = at-open-from2 .before .before .before .before .before .before .before .before .before .before .before in
+    at-open-from2 .open-from2 .kept .1 .1 .1 .1 .1 .1 .0 ∙ at-eat .eat .kept .1 .1 .1 .1 .1 .1 .0
 
 returns-2 : tie.Need-returns-2
-returns-2 c = then (c .before .before .before .before .before .before .before .before .before .before .before .before .before .before .before .before .before .before .before .eat .ensures) (when-false (c .before .before .before .before .before .before .before .before .before .before .before .before .if1 .left) (then (c .before .before .before .before .before .before .before .before .open-from2 .ensures) gives))
+returns-2 c =
+    let at-open-from2 = c .before .before .before .before .before .before .before .before in
+    let at-if1 = at-open-from2 .before .before .before .before in
+    let at-eat = at-if1 .before .before .before .before .before .before .before in
+    then (at-eat .eat .ensures) (when-false (at-if1 .if1 .left) (then (at-open-from2 .open-from2 .ensures) gives))
 
 pub paren-start-spec : {M : Type 1} → statement M
 paren-start-spec =

@@ -21,28 +21,61 @@ open-from-requires : tie.Need-open-from-requires
 open-from-requires c κs = search needs
 
 same-length : tie.Need-same-length
-same-length c = c .before .before .before .before .before .before .before .before .before .eat-unary .kept .1 .1 .1 .1 .0 ∙ c .before .before .before .before .before .before .before .before .before .before .before .before .before .before .before .before .before .before .before .skip-trivia-start .kept .1 .1 .1 .1 .0
+same-length c =
+    let at-eat-unary = c .before .before .before .before .before .before .before .before .before in
+    let at-skip-trivia-start = at-eat-unary .before .before .before .before .before .before .before .before .before .before in
+    at-eat-unary .eat-unary .kept .1 .1 .1 .1 .0 ∙ at-skip-trivia-start .skip-trivia-start .kept .1 .1 .1 .1 .0
 
 same-length-2 : tie.Need-same-length-2
-same-length-2 c = c .before .before .before .before .before .before .before .before .before .eat-unary .kept .1 .1 .1 .1 .1 .0 ∙ c .before .before .before .before .before .before .before .before .before .before .before .before .before .before .before .before .before .before .before .skip-trivia-start .kept .1 .1 .1 .1 .1 .0
+same-length-2 c =
+    let at-eat-unary = c .before .before .before .before .before .before .before .before .before in
+    let at-skip-trivia-start = at-eat-unary .before .before .before .before .before .before .before .before .before .before in
+    at-eat-unary .eat-unary .kept .1 .1 .1 .1 .1 .0 ∙ at-skip-trivia-start .skip-trivia-start .kept .1 .1 .1 .1 .1 .0
 
 same-length-3 : tie.Need-same-length-3
-same-length-3 c = c .before .before .before .before .before .before .before .before .before .eat-unary .kept .1 .1 .1 .1 .1 .1 .0 ∙ c .before .before .before .before .before .before .before .before .before .before .before .before .before .before .before .before .before .before .before .skip-trivia-start .kept .1 .1 .1 .1 .1 .1 .0
+same-length-3 c =
+    let at-eat-unary = c .before .before .before .before .before .before .before .before .before in
+    let at-skip-trivia-start = at-eat-unary .before .before .before .before .before .before .before .before .before .before in
+    at-eat-unary .eat-unary .kept .1 .1 .1 .1 .1 .1 .0 ∙ at-skip-trivia-start .skip-trivia-start .kept .1 .1 .1 .1 .1 .1 .0
 
 returns : tie.Need-returns
-returns c = then (c .before .before .before .before .before .before .before .before .before .before .before .before .before .before .before .before .before .before .before .skip-trivia-start .ensures) (then (rw (c .enum-told .given .1) at (c .before .before .before .before .before .before .before .before .before .eat-unary .ensures)) gives)
+returns c =
+    let at-eat-unary = c .before .before .before .before .before .before .before .before .before in
+    let at-skip-trivia-start = at-eat-unary .before .before .before .before .before .before .before .before .before .before in
+    then (at-skip-trivia-start .skip-trivia-start .ensures) (then (rw (c .enum-told .given .1) at (at-eat-unary .eat-unary .ensures)) gives)
 
 same-length-4 : tie.Need-same-length-4
-same-length-4 c = c .before .before .before .before .before .before .before .before .open-from .kept .1 .1 .1 .1 .0 ∙ c .before .before .before .before .before .before .before .before .before .before .before .before .before .before .before .before .before .before .before .before .before .before .eat-unary .kept .1 .1 .1 .1 .0 ∙ c .before .before .before .before .before .before .before .before .before .before .before .before .before .before .before .before .before .before .before .before .before .before .before .before .before .before .before .before .before .before .before .before .skip-trivia-start .kept .1 .1 .1 .1 .0
+same-length-4 c =
+    let at-open-from = c .before .before .before .before .before .before .before .before in
+    let at-eat-unary = at-open-from .before .before .before .before .before .before .before .before .before .before .before .before .before .before in
+    let at-skip-trivia-start = at-eat-unary .before .before .before .before .before .before .before .before .before .before in
+    at-open-from .open-from .kept .1 .1 .1 .1 .0 ∙ at-eat-unary .eat-unary .kept .1 .1 .1 .1 .0
+    ∙ at-skip-trivia-start .skip-trivia-start .kept .1 .1 .1 .1 .0
 
 same-length-5 : tie.Need-same-length-5
-same-length-5 c = c .before .before .before .before .before .before .before .before .open-from .kept .1 .1 .1 .1 .1 .0 ∙ c .before .before .before .before .before .before .before .before .before .before .before .before .before .before .before .before .before .before .before .before .before .before .eat-unary .kept .1 .1 .1 .1 .1 .0 ∙ c .before .before .before .before .before .before .before .before .before .before .before .before .before .before .before .before .before .before .before .before .before .before .before .before .before .before .before .before .before .before .before .before .skip-trivia-start .kept .1 .1 .1 .1 .1 .0
+same-length-5 c =
+    let at-open-from = c .before .before .before .before .before .before .before .before in
+    let at-eat-unary = at-open-from .before .before .before .before .before .before .before .before .before .before .before .before .before .before in
+    let at-skip-trivia-start = at-eat-unary .before .before .before .before .before .before .before .before .before .before in
+    at-open-from .open-from .kept .1 .1 .1 .1 .1 .0 ∙ at-eat-unary .eat-unary .kept .1 .1 .1 .1 .1 .0
+    ∙ at-skip-trivia-start .skip-trivia-start .kept .1 .1 .1 .1 .1 .0
 
 same-length-6 : tie.Need-same-length-6
-same-length-6 c = c .before .before .before .before .before .before .before .before .open-from .kept .1 .1 .1 .1 .1 .1 .0 ∙ c .before .before .before .before .before .before .before .before .before .before .before .before .before .before .before .before .before .before .before .before .before .before .eat-unary .kept .1 .1 .1 .1 .1 .1 .0 ∙ c .before .before .before .before .before .before .before .before .before .before .before .before .before .before .before .before .before .before .before .before .before .before .before .before .before .before .before .before .before .before .before .before .skip-trivia-start .kept .1 .1 .1 .1 .1 .1 .0
+same-length-6 c =
+    let at-open-from = c .before .before .before .before .before .before .before .before in
+    let at-eat-unary = at-open-from .before .before .before .before .before .before .before .before .before .before .before .before .before .before in
+    let at-skip-trivia-start = at-eat-unary .before .before .before .before .before .before .before .before .before .before in
+    at-open-from .open-from .kept .1 .1 .1 .1 .1 .1 .0 ∙ at-eat-unary .eat-unary .kept .1 .1 .1 .1 .1 .1 .0
+    ∙ at-skip-trivia-start .skip-trivia-start .kept .1 .1 .1 .1 .1 .1 .0
 
 returns-2 : tie.Need-returns-2
-returns-2 c = then (c .before .before .before .before .before .before .before .before .before .before .before .before .before .before .before .before .before .before .before .before .before .before .before .before .before .before .before .before .before .before .before .before .skip-trivia-start .ensures) (then (rw (c .before .before .before .before .before .before .before .before .before .before .before .before .before .it .given .1) at (c .before .before .before .before .before .before .before .before .before .before .before .before .before .before .before .before .before .before .before .before .before .before .eat-unary .ensures)) (then (c .before .before .before .before .before .before .before .before .open-from .ensures) gives))
+returns-2 c =
+    let at-open-from = c .before .before .before .before .before .before .before .before in
+    let at-it = at-open-from .before .before .before .before .before in
+    let at-eat-unary = at-it .before .before .before .before .before .before .before .before .before in
+    let at-skip-trivia-start = at-eat-unary .before .before .before .before .before .before .before .before .before .before in
+    then (at-skip-trivia-start .skip-trivia-start .ensures)
+    (then (rw (at-it .it .given .1) at (at-eat-unary .eat-unary .ensures)) (then (at-open-from .open-from .ensures) gives))
 
 pub prefix-spec : {M : Type 1} → statement M
 prefix-spec =

@@ -12,31 +12,55 @@ is-some-requires : tie.Need-is-some-requires
 is-some-requires c κs = search needs
 
 same-length : tie.Need-same-length
-same-length c = c .before .before .before .before .before .before .before .before .literal .kept .1 .1 .1 .1 .0
+same-length c =
+    let at-literal = c .before .before .before .before .before .before .before .before in
+    at-literal .literal .kept .1 .1 .1 .1 .0
 
 same-length-2 : tie.Need-same-length-2
-same-length-2 c = c .before .before .before .before .before .before .before .before .literal .kept .1 .1 .1 .1 .1 .0
+same-length-2 c =
+    let at-literal = c .before .before .before .before .before .before .before .before in
+    at-literal .literal .kept .1 .1 .1 .1 .1 .0
 
 same-length-3 : tie.Need-same-length-3
-same-length-3 c = c .before .before .before .before .before .before .before .before .literal .kept .1 .1 .1 .1 .1 .1 .0
+same-length-3 c =
+    let at-literal = c .before .before .before .before .before .before .before .before in
+    at-literal .literal .kept .1 .1 .1 .1 .1 .1 .0
 
 returns : tie.Need-returns
-returns c = or-some (c .before .before .before .before .before .before .before .before .literal .result .it) (rw (c .before .is-some .ensures) at (c .if1 .taken)) (c .before .before .before .before .before .before .before .before .literal .ensures)
+returns c =
+    let at-is-some = c .before in
+    let at-literal = at-is-some .before .before .before .before .before .before .before in
+    or-some (at-literal .literal .result .it) (rw (at-is-some .is-some .ensures) at (c .if1 .taken)) (at-literal .literal .ensures)
 
 named-requires : tie.Need-named-requires
 named-requires c κs = search needs
 
 same-length-4 : tie.Need-same-length-4
-same-length-4 c = c .before .before .before .before .before .before .named .kept .1 .1 .1 .1 .0 ∙ c .before .before .before .before .before .before .before .before .before .before .before .before .before .before .before .before .before .before .literal .kept .1 .1 .1 .1 .0
+same-length-4 c =
+    let at-named = c .before .before .before .before .before .before in
+    let at-literal = at-named .before .before .before .before .before .before .before .before .before .before .before .before in
+    at-named .named .kept .1 .1 .1 .1 .0 ∙ at-literal .literal .kept .1 .1 .1 .1 .0
 
 same-length-5 : tie.Need-same-length-5
-same-length-5 c = c .before .before .before .before .before .before .named .kept .1 .1 .1 .1 .1 .0 ∙ c .before .before .before .before .before .before .before .before .before .before .before .before .before .before .before .before .before .before .literal .kept .1 .1 .1 .1 .1 .0
+same-length-5 c =
+    let at-named = c .before .before .before .before .before .before in
+    let at-literal = at-named .before .before .before .before .before .before .before .before .before .before .before .before in
+    at-named .named .kept .1 .1 .1 .1 .1 .0 ∙ at-literal .literal .kept .1 .1 .1 .1 .1 .0
 
 same-length-6 : tie.Need-same-length-6
-same-length-6 c = c .before .before .before .before .before .before .named .kept .1 .1 .1 .1 .1 .1 .0 ∙ c .before .before .before .before .before .before .before .before .before .before .before .before .before .before .before .before .before .before .literal .kept .1 .1 .1 .1 .1 .1 .0
+same-length-6 c =
+    let at-named = c .before .before .before .before .before .before in
+    let at-literal = at-named .before .before .before .before .before .before .before .before .before .before .before .before in
+    at-named .named .kept .1 .1 .1 .1 .1 .1 .0 ∙ at-literal .literal .kept .1 .1 .1 .1 .1 .1 .0
 
 returns-2 : tie.Need-returns-2
-returns-2 c = or-none (c .before .before .before .before .before .before .before .before .before .before .before .before .before .before .before .before .before .before .literal .result .it) (rw (c .before .before .before .before .before .before .before .before .before .before .before .is-some .ensures) at (c .before .before .before .before .before .before .before .before .before .before .if1 .left)) (c .before .before .before .before .before .before .before .before .before .before .before .before .before .before .before .before .before .before .literal .ensures) (c .before .before .before .before .before .before .named .ensures)
+returns-2 c =
+    let at-named = c .before .before .before .before .before .before in
+    let at-if1 = at-named .before .before .before .before in
+    let at-is-some = at-if1 .before in
+    let at-literal = at-is-some .before .before .before .before .before .before .before in
+    or-none (at-literal .literal .result .it) (rw (at-is-some .is-some .ensures) at (at-if1 .if1 .left)) (at-literal .literal .ensures)
+    (at-named .named .ensures)
 
 pub simple-spec : {M : Type 1} → statement M
 simple-spec =

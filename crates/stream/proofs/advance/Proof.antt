@@ -1,5 +1,4 @@
 -- `advance` meets its contract, by case.
-use mathlib.Core.Path.{sym, _∙_}
 use Rattle.stream.specs.Skip.{advance-plain, advance-marked, advance-told}
 use borrow.Author.Needs.{needs}
 use Rattle.stream.proofs.advance.Statement.{statement}
@@ -27,7 +26,15 @@ is-marked-requires : tie.Need-is-marked-requires
 is-marked-requires c κs = search needs
 
 returns : tie.Need-returns
-returns c = advance-marked _ _ _ _ _ _ _ _ (c .before .before .before .before .before .before .before .before .advance .ensures .0) (c .before .before .before .before .before .before .before .move-to .ensures) (c .before .before .before .before .before .before .peek .ensures) (c .before .before .before .before .before .lex-error .ensures) _ _ (c .before .before .before .error .given .1) (c .before .is-marked .ensures) (c .if1 .taken)
+returns c =
+    let at-is-marked = c .before in
+    let at-error = at-is-marked .before .before in
+    let at-lex-error = at-error .before .before in
+    let at-peek = at-lex-error .before in
+    let at-move-to = at-peek .before in
+    let at-advance = at-move-to .before in
+    advance-marked _ _ _ _ _ _ _ _ (at-advance .advance .ensures .0) (at-move-to .move-to .ensures) (at-peek .peek .ensures)
+    (at-lex-error .lex-error .ensures) _ _ (at-error .error .given .1) (at-is-marked .is-marked .ensures) (c .if1 .taken)
 
 token-start-requires : tie.Need-token-start-requires
 token-start-requires c κs = search needs
@@ -39,7 +46,13 @@ emit-requires : tie.Need-emit-requires
 emit-requires c κs = search needs
 
 returns-2 : tie.Need-returns-2
-returns-2 c = advance-plain _ _ _ _ _ _ _ _ (c .before .before .before .before .before .advance .ensures .0) (c .before .before .before .before .move-to .ensures) (c .before .before .before .peek .ensures) (c .before .before .lex-error .ensures) (c .enum-told .given .1)
+returns-2 c =
+    let at-lex-error = c .before .before in
+    let at-peek = at-lex-error .before in
+    let at-move-to = at-peek .before in
+    let at-advance = at-move-to .before in
+    advance-plain _ _ _ _ _ _ _ _ (at-advance .advance .ensures .0) (at-move-to .move-to .ensures) (at-peek .peek .ensures)
+    (at-lex-error .lex-error .ensures) (c .enum-told .given .1)
 
 same-length : tie.Need-same-length
 same-length c = search needs
@@ -52,8 +65,20 @@ same-length-3 c = search needs
 
 returns-3 : tie.Need-returns-3
 returns-3 c =
-    advance-told _ _ _ _ _ _ _ _ (c .before .before .before .before .before .before .before .before .before .before .before .before .before .before .before .before .before .before .before .before .advance .ensures .0) (c .before .before .before .before .before .before .before .before .before .before .before .before .before .before .before .before .before .before .before .move-to .ensures) (c .before .before .before .before .before .before .before .before .before .before .before .before .before .before .before .before .before .before .peek .ensures) (c .before .before .before .before .before .before .before .before .before .before .before .before .before .before .before .before .before .lex-error .ensures) _ _ _ _ _ _
-    (c .before .before .before .before .before .before .before .before .before .before .before .before .before .before .before .error .given .1) (c .before .before .before .before .before .before .before .before .before .before .before .before .before .is-marked .ensures) (c .before .before .before .before .before .before .before .before .before .before .before .before .if1 .left) (c .before .before .before .before .before .before .before .before .token-start .ensures) (c .before .before .before .before .before .before .before .token-end .ensures) (c .before .before .before .before .before .before .emit .ensures)
+    let at-emit = c .before .before .before .before .before .before in
+    let at-token-end = at-emit .before in
+    let at-token-start = at-token-end .before in
+    let at-if1 = at-token-start .before .before .before .before in
+    let at-is-marked = at-if1 .before in
+    let at-error = at-is-marked .before .before in
+    let at-lex-error = at-error .before .before in
+    let at-peek = at-lex-error .before in
+    let at-move-to = at-peek .before in
+    let at-advance = at-move-to .before in
+    advance-told _ _ _ _ _ _ _ _ (at-advance .advance .ensures .0) (at-move-to .move-to .ensures) (at-peek .peek .ensures)
+    (at-lex-error .lex-error .ensures) _ _ _ _ _ _
+    (at-error .error .given .1) (at-is-marked .is-marked .ensures) (at-if1 .if1 .left) (at-token-start .token-start .ensures)
+    (at-token-end .token-end .ensures) (at-emit .emit .ensures)
 
 pub advance-spec : {M : Type 1} → statement M
 advance-spec =

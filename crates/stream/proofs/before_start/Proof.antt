@@ -1,5 +1,4 @@
 -- `before_start` meets its contract.
-use mathlib.Core.Path.{ap}
 use native.Mathlib.Numerals.{sub-one}
 use Rattle.literals.specs.Spelling.{tokenStart}
 use borrow.Author.Needs.{needs}

@@ -19,7 +19,9 @@ same-length-3 c = search needs
 
 returns : tie.Need-returns
 unfolding check
-returns c = then (c .before .before .before .before .before .before .before .before .peek .ensures) gives
+returns c =
+    let at-peek = c .before .before .before .before .before .before .before .before in
+    then (at-peek .peek .ensures) gives
 
 pub check-spec : {M : Type 1} → statement M
 check-spec = tie.close (tie.spec peek-requires same-length same-length-2 same-length-3 returns)

@@ -22,7 +22,11 @@ same-length-3 c = search needs
 
 returns : tie.Need-returns
 unfolding eat
-returns c = then (c .before .before .before .before .before .before .before .before .before .before .before .before .before .before .before .before .before .before .check .ensures) (when-true (c .before .before .before .before .before .before .before .before .before .before .if1 .taken) (then (c .before .before .before .before .before .before .pass .ensures) gives))
+returns c =
+    let at-pass = c .before .before .before .before .before .before in
+    let at-if1 = at-pass .before .before .before .before in
+    let at-check = at-if1 .before .before .before .before .before .before .before .before in
+    then (at-check .check .ensures) (when-true (at-if1 .if1 .taken) (then (at-pass .pass .ensures) gives))
 
 same-length-4 : tie.Need-same-length-4
 same-length-4 c = search needs
@@ -35,7 +39,9 @@ same-length-6 c = search needs
 
 returns-2 : tie.Need-returns-2
 unfolding eat
-returns-2 c = then (c .before .before .before .before .before .before .before .before .check .ensures) (when-false (c .if1 .left) gives)
+returns-2 c =
+    let at-check = c .before .before .before .before .before .before .before .before in
+    then (at-check .check .ensures) (when-false (c .if1 .left) gives)
 
 pub eat-spec : {M : Type 1} → statement M
 eat-spec =

@@ -21,7 +21,10 @@ same-length-3 : tie.Need-same-length-3
 same-length-3 c = search needs
 
 returns : tie.Need-returns
-returns c = mark-emit (c .before .before .before .before .before .before .before .before .before .before .mark .ensures) (emit-does (c .before .before .before .before .before .before .emit .ensures))
+returns c =
+    let at-emit = c .before .before .before .before .before .before in
+    let at-mark = at-emit .before .before .before .before in
+    mark-emit (at-mark .mark .ensures) (emit-does (at-emit .emit .ensures))
 
 pub emit-and-mark-spec : {M : Type 1} → statement M
 emit-and-mark-spec =

@@ -39,8 +39,15 @@ same-length-3 c = search needs
 returns-2 : tie.Need-returns-2
 unfolding emitUnexpected
 returns-2 c =
-    then (marked-is (c .before .before .before .before .before .before .before .before .before .before .before .before .before .before .before .before .before .before .before .before .before .before .before .before .before .before .is-marked .ensures))
-    (when-true (ap not (c .before .before .before .before .before .before .before .before .before .before .before .before .before .before .before .before .before .before .before .before .before .before .before .before .before .if1 .left)) (then (c .before .before .before .before .before .before .before .before .before .before .before .before .before .before .before .before .before .before .before .before .before .peek .ensures) (then (here-is (c .before .before .before .before .before .before .before .before .token-start .ensures) (c .before .before .before .before .before .before .before .token-end .ensures)) (c .before .before .before .before .before .before .emit-and-mark .ensures))))
+    let at-emit-and-mark = c .before .before .before .before .before .before in
+    let at-token-end = at-emit-and-mark .before in
+    let at-token-start = at-token-end .before in
+    let at-peek = at-token-start .before .before .before .before .before .before .before .before .before .before .before .before .before in
+    let at-if1 = at-peek .before .before .before .before in
+    let at-is-marked = at-if1 .before in
+    then (marked-is (at-is-marked .is-marked .ensures))
+    (when-true (ap not (at-if1 .if1 .left)) (then (at-peek .peek .ensures)
+    (then (here-is (at-token-start .token-start .ensures) (at-token-end .token-end .ensures)) (at-emit-and-mark .emit-and-mark .ensures))))
 
 pub emit-unexpected-spec : {M : Type 1} → statement M
 emit-unexpected-spec =

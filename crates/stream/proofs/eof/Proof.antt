@@ -18,7 +18,9 @@ same-length-3 c = search needs
 
 returns : tie.Need-returns
 unfolding eof
-returns c = c .before .before .before .before .before .before .check .ensures
+returns c =
+    let at-check = c .before .before .before .before .before .before in
+    at-check .check .ensures
 
 pub eof-spec : {M : Type 1} → statement M
 eof-spec = tie.close (tie.spec check-requires same-length same-length-2 same-length-3 returns)

@@ -12,33 +12,54 @@ eat-requires : tie.Need-eat-requires
 eat-requires c κs = search needs
 
 same-length : tie.Need-same-length
-same-length c = c .before .before .before .before .before .before .before .before .eat .kept .1 .1 .1 .1 .0
+same-length c =
+    let at-eat = c .before .before .before .before .before .before .before .before in
+    at-eat .eat .kept .1 .1 .1 .1 .0
 
 same-length-2 : tie.Need-same-length-2
-same-length-2 c = c .before .before .before .before .before .before .before .before .eat .kept .1 .1 .1 .1 .1 .0
+same-length-2 c =
+    let at-eat = c .before .before .before .before .before .before .before .before in
+    at-eat .eat .kept .1 .1 .1 .1 .1 .0
 
 same-length-3 : tie.Need-same-length-3
-same-length-3 c = c .before .before .before .before .before .before .before .before .eat .kept .1 .1 .1 .1 .1 .1 .0
+same-length-3 c =
+    let at-eat = c .before .before .before .before .before .before .before .before in
+    at-eat .eat .kept .1 .1 .1 .1 .1 .1 .0
 
 returns : tie.Need-returns
 unfolding expect
-returns c = then (c .before .before .before .before .before .before .before .before .eat .ensures) (then (when-false (ap not (c .if1 .taken)) gives) gives)
+returns c =
+    let at-eat = c .before .before .before .before .before .before .before .before in
+    then (at-eat .eat .ensures) (then (when-false (ap not (c .if1 .taken)) gives) gives)
 
 emit-unexpected-requires : tie.Need-emit-unexpected-requires
 emit-unexpected-requires c κs = search needs
 
 same-length-4 : tie.Need-same-length-4
-same-length-4 c = c .before .before .before .before .before .before .emit-unexpected .kept .1 .1 .1 .1 .0 ∙ c .before .before .before .before .before .before .before .before .before .before .before .before .before .before .before .before .before .before .eat .kept .1 .1 .1 .1 .0
+same-length-4 c =
+    let at-emit-unexpected = c .before .before .before .before .before .before in
+    let at-eat = at-emit-unexpected .before .before .before .before .before .before .before .before .before .before .before .before in
+    at-emit-unexpected .emit-unexpected .kept .1 .1 .1 .1 .0 ∙ at-eat .eat .kept .1 .1 .1 .1 .0
 
 same-length-5 : tie.Need-same-length-5
-same-length-5 c = c .before .before .before .before .before .before .emit-unexpected .kept .1 .1 .1 .1 .1 .0 ∙ c .before .before .before .before .before .before .before .before .before .before .before .before .before .before .before .before .before .before .eat .kept .1 .1 .1 .1 .1 .0
+same-length-5 c =
+    let at-emit-unexpected = c .before .before .before .before .before .before in
+    let at-eat = at-emit-unexpected .before .before .before .before .before .before .before .before .before .before .before .before in
+    at-emit-unexpected .emit-unexpected .kept .1 .1 .1 .1 .1 .0 ∙ at-eat .eat .kept .1 .1 .1 .1 .1 .0
 
 same-length-6 : tie.Need-same-length-6
-same-length-6 c = c .before .before .before .before .before .before .emit-unexpected .kept .1 .1 .1 .1 .1 .1 .0 ∙ c .before .before .before .before .before .before .before .before .before .before .before .before .before .before .before .before .before .before .eat .kept .1 .1 .1 .1 .1 .1 .0
+same-length-6 c =
+    let at-emit-unexpected = c .before .before .before .before .before .before in
+    let at-eat = at-emit-unexpected .before .before .before .before .before .before .before .before .before .before .before .before in
+    at-emit-unexpected .emit-unexpected .kept .1 .1 .1 .1 .1 .1 .0 ∙ at-eat .eat .kept .1 .1 .1 .1 .1 .1 .0
 
 returns-2 : tie.Need-returns-2
 unfolding expect
-returns-2 c = then (c .before .before .before .before .before .before .before .before .before .before .before .before .before .before .before .before .before .before .eat .ensures) (then (when-true (ap not (c .before .before .before .before .before .before .before .before .before .before .if1 .left)) (c .before .before .before .before .before .before .emit-unexpected .ensures)) gives)
+returns-2 c =
+    let at-emit-unexpected = c .before .before .before .before .before .before in
+    let at-if1 = at-emit-unexpected .before .before .before .before in
+    let at-eat = at-if1 .before .before .before .before .before .before .before .before in
+    then (at-eat .eat .ensures) (then (when-true (ap not (at-if1 .if1 .left)) (at-emit-unexpected .emit-unexpected .ensures)) gives)
 
 pub expect-spec : {M : Type 1} → statement M
 expect-spec =

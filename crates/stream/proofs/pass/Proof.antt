@@ -21,7 +21,14 @@ same-length-3 : tie.Need-same-length-3
 same-length-3 c = search needs
 
 returns : tie.Need-returns
-returns c = pass-is (c .before .before .before .before .before .before .before .before .before .before .before .before .before .before .before .before .before .before .before .before .before .before .before .before .before .args .text .now) (c .before .before .before .before .before .before .before .before .before .before .before .before .before .before .before .before .before .before .before .before .before .before .before .before .before .args .tokens .now) _ (c .before .before .before .before .before .before .before .before .before .before .before .before .before .before .before .before .before .before .before .before .before .before .before .before .before .args .s) (c .before .before .before .before .before .before .before .before .before .before .before .before .before .before .before .before .skip-trivia .result) (memory (c .before .before .before .before .before .before .before .before .before .before .before .before .before .before .before .before .before .before .before .before .before .before .before .before .before .args .nodes .now) (c .before .before .before .before .before .before .before .before .before .before .before .before .before .before .before .before .before .before .before .before .before .before .before .before .before .args .values .now) (c .before .before .before .before .before .before .before .before .before .before .before .before .before .before .before .before .before .before .before .before .before .before .before .before .before .args .reports .now)) (memory (c .before .before .before .before .before .before .before .before .before .before .before .before .before .before .before .before .skip-trivia .last .1 .1 .1 .1 .0) (c .before .before .before .before .before .before .before .before .before .before .before .before .before .before .before .before .skip-trivia .last .1 .1 .1 .1 .1 .0) (c .before .before .before .before .before .before .before .before .before .before .before .before .before .before .before .before .skip-trivia .last .1 .1 .1 .1 .1 .1 .0)) (c .before .before .before .before .before .before .before .before .before .before .before .before .before .before .before .before .skip-trivia .ensures) _ _ (c .before .before .before .before .before .before .advance .ensures)
+returns c =
+    let at-advance = c .before .before .before .before .before .before in
+    let at-skip-trivia = at-advance .before .before .before .before .before .before .before .before .before .before in
+    let at-args = at-skip-trivia .before .before .before .before .before .before .before .before .before in
+    pass-is (at-args .args .text .now) (at-args .args .tokens .now) _ (at-args .args .s) (at-skip-trivia .skip-trivia .result)
+    (memory (at-args .args .nodes .now) (at-args .args .values .now) (at-args .args .reports .now))
+    (memory (at-skip-trivia .skip-trivia .last .1 .1 .1 .1 .0) (at-skip-trivia .skip-trivia .last .1 .1 .1 .1 .1 .0)
+    (at-skip-trivia .skip-trivia .last .1 .1 .1 .1 .1 .1 .0)) (at-skip-trivia .skip-trivia .ensures) _ _ (at-advance .advance .ensures)
 
 pub pass-spec : {M : Type 1} → statement M
 pass-spec =

@@ -21,7 +21,12 @@ same-length-3 : tie.Need-same-length-3
 same-length-3 c = search needs
 
 returns : tie.Need-returns
-returns c = peek-is (c .before .before .before .before .before .before .before .before .before .before .before .before .before .before .before .before .before .before .args .text .now) (c .before .before .before .before .before .before .before .before .before .before .before .before .before .before .before .before .before .before .args .tokens .now) _ (c .before .before .before .before .before .before .before .before .before .before .before .before .before .before .before .before .before .before .args .s) (c .before .before .before .before .before .before .before .before .before .skip-trivia .result) (memory (c .before .before .before .before .before .before .before .before .before .before .before .before .before .before .before .before .before .before .args .nodes .now) (c .before .before .before .before .before .before .before .before .before .before .before .before .before .before .before .before .before .before .args .values .now) (c .before .before .before .before .before .before .before .before .before .before .before .before .before .before .before .before .before .before .args .reports .now)) _ (c .before .before .before .before .before .before .before .before .before .skip-trivia .ensures) _ (c .peek .ensures)
+returns c =
+    let at-skip-trivia = c .before .before .before .before .before .before .before .before .before in
+    let at-args = at-skip-trivia .before .before .before .before .before .before .before .before .before in
+    peek-is (at-args .args .text .now) (at-args .args .tokens .now) _ (at-args .args .s) (at-skip-trivia .skip-trivia .result)
+    (memory (at-args .args .nodes .now) (at-args .args .values .now) (at-args .args .reports .now)) _ (at-skip-trivia .skip-trivia .ensures) _
+    (c .peek .ensures)
 
 pub peek-spec : {M : Type 1} → statement M
 peek-spec =

@@ -35,27 +35,70 @@ advance-requires : tie.Need-advance-requires Inv-loop μ-loop
 advance-requires c κs = search needs
 
 loop-less : tie.Need-loop-less Inv-loop μ-loop
-loop-less c = skip-falls (c .before .before .before .before .before .before .before .before .before .before .before .before .before .before .before .before .before .before .before .before .before .before .before .before .before .args .text .now) (c .before .before .before .before .before .before .before .before .before .before .before .before .before .before .before .before .before .before .before .before .before .before .before .before .before .args .tokens .now) (c .before .before .before .before .before .before .before .before .before .before .before .before .before .before .before .before .before .before .before .loop .r) (memory (c .before .before .before .before .before .before .before .before .before .before .before .before .before .before .before .before .before .before .before .loop .nodes) (c .before .before .before .before .before .before .before .before .before .before .before .before .before .before .before .before .before .before .before .loop .values) (c .before .before .before .before .before .before .before .before .before .before .before .before .before .before .before .before .before .before .before .loop .reports)) _ _ (c .before .before .before .before .before .before .advance .result) (memory (c .before .before .before .before .before .before .advance .last .1 .1 .1 .1 .0) (c .before .before .before .before .before .before .advance .last .1 .1 .1 .1 .1 .0) (c .before .before .before .before .before .before .advance .last .1 .1 .1 .1 .1 .1 .0)) _ _ (c .before .before .before .before .before .before .before .before .before .before .before .before .before .before .before .before .before .if1 .taken) (c .before .before .before .before .before .before .before .before .before .before .before .before .before .before .skip-trivia .ensures .0) (c .before .before .before .before .before .before .before .before .before .before .before .before .before .before .skip-trivia .ensures .1) (c .before .before .before .before .before .before .before .before .before .before .before .before .before .move-to .ensures) (c .before .before .before .before .before .before .before .before .before .before .before .before .peek .ensures) (c .before .before .before .before .before .before .before .before .before .before .before .is-trivia .ensures) (c .before .before .before .before .before .before .before .before .before .before .if2 .taken) (c .before .before .before .before .before .before .advance .ensures)
+loop-less c =
+    let at-advance = c .before .before .before .before .before .before in
+    let at-if2 = at-advance .before .before .before .before in
+    let at-is-trivia = at-if2 .before in
+    let at-peek = at-is-trivia .before in
+    let at-move-to = at-peek .before in
+    let at-skip-trivia = at-move-to .before in
+    let at-if1 = at-skip-trivia .before .before .before in
+    let at-loop = at-if1 .before .before in
+    let at-args = at-loop .before .before .before .before .before .before in
+    skip-falls (at-args .args .text .now) (at-args .args .tokens .now) (at-loop .loop .r)
+    (memory (at-loop .loop .nodes) (at-loop .loop .values) (at-loop .loop .reports)) _ _ (at-advance .advance .result)
+    (memory (at-advance .advance .last .1 .1 .1 .1 .0) (at-advance .advance .last .1 .1 .1 .1 .1 .0)
+    (at-advance .advance .last .1 .1 .1 .1 .1 .1 .0)) _ _ (at-if1 .if1 .taken) (at-skip-trivia .skip-trivia .ensures .0)
+    (at-skip-trivia .skip-trivia .ensures .1) (at-move-to .move-to .ensures) (at-peek .peek .ensures) (at-is-trivia .is-trivia .ensures)
+    (at-if2 .if2 .taken) (at-advance .advance .ensures)
 
 loop-again : tie.Need-loop-again Inv-loop μ-loop
-loop-again c = (
-  skip-next (c .before .before .before .before .before .before .before .before .before .before .before .before .before .before .before .before .before .before .before .before .before .before .before .before .before .args .text .now) (c .before .before .before .before .before .before .before .before .before .before .before .before .before .before .before .before .before .before .before .before .before .before .before .before .before .args .tokens .now) (c .before .before .before .before .before .before .before .before .before .before .before .before .before .before .before .before .before .before .before .loop .r) (memory (c .before .before .before .before .before .before .before .before .before .before .before .before .before .before .before .before .before .before .before .loop .nodes) (c .before .before .before .before .before .before .before .before .before .before .before .before .before .before .before .before .before .before .before .loop .values) (c .before .before .before .before .before .before .before .before .before .before .before .before .before .before .before .before .before .before .before .loop .reports)) _ _ _ _ _ (c .before .before .before .before .before .before .before .before .before .before .before .before .before .before .before .before .before .if1 .taken) (c .before .before .before .before .before .before .before .before .before .before .before .before .before .before .skip-trivia .ensures .0) (c .before .before .before .before .before .before .before .before .before .before .before .before .before .move-to .ensures) (c .before .before .before .before .before .before .before .before .before .before .before .before .peek .ensures) (c .before .before .before .before .before .before .before .before .before .before .before .is-trivia .ensures) (c .before .before .before .before .before .before .before .before .before .before .before .before .before .before .before .before .before .before .before .loop .inv .0) (c .before .before .before .before .before .before .advance .result) (memory (c .before .before .before .before .before .before .advance .last .1 .1 .1 .1 .0) (c .before .before .before .before .before .before .advance .last .1 .1 .1 .1 .1 .0) (c .before .before .before .before .before .before .advance .last .1 .1 .1 .1 .1 .1 .0)) (c .before .before .before .before .before .before .before .before .before .before .if2 .taken) (c .before .before .before .before .before .before .advance .ensures),
-  c .before .before .before .before .before .before .advance .kept .1 .1 .1 .1 .0 ∙ c .before .before .before .before .before .before .before .before .before .before .before .before .before .before .before .before .before .before .before .loop .inv .1,
-  c .before .before .before .before .before .before .advance .kept .1 .1 .1 .1 .1 .0 ∙ c .before .before .before .before .before .before .before .before .before .before .before .before .before .before .before .before .before .before .before .loop .inv .2,
-  c .before .before .before .before .before .before .advance .kept .1 .1 .1 .1 .1 .1 .0 ∙ c .before .before .before .before .before .before .before .before .before .before .before .before .before .before .before .before .before .before .before .loop .inv .3,
-)
+loop-again c =
+    let at-advance = c .before .before .before .before .before .before in
+    let at-if2 = at-advance .before .before .before .before in
+    let at-is-trivia = at-if2 .before in
+    let at-peek = at-is-trivia .before in
+    let at-move-to = at-peek .before in
+    let at-skip-trivia = at-move-to .before in
+    let at-if1 = at-skip-trivia .before .before .before in
+    let at-loop = at-if1 .before .before in
+    let at-args = at-loop .before .before .before .before .before .before in (
+      skip-next (at-args .args .text .now) (at-args .args .tokens .now) (at-loop .loop .r)
+          (memory (at-loop .loop .nodes) (at-loop .loop .values) (at-loop .loop .reports)) _ _ _ _ _ (at-if1 .if1 .taken)
+          (at-skip-trivia .skip-trivia .ensures .0) (at-move-to .move-to .ensures) (at-peek .peek .ensures) (at-is-trivia .is-trivia .ensures)
+          (at-loop .loop .inv .0) (at-advance .advance .result)
+          (memory (at-advance .advance .last .1 .1 .1 .1 .0) (at-advance .advance .last .1 .1 .1 .1 .1 .0)
+          (at-advance .advance .last .1 .1 .1 .1 .1 .1 .0)) (at-if2 .if2 .taken) (at-advance .advance .ensures),
+      at-advance .advance .kept .1 .1 .1 .1 .0 ∙ at-loop .loop .inv .1,
+      at-advance .advance .kept .1 .1 .1 .1 .1 .0 ∙ at-loop .loop .inv .2,
+      at-advance .advance .kept .1 .1 .1 .1 .1 .1 .0 ∙ at-loop .loop .inv .3,
+    )
 
 same-length : tie.Need-same-length Inv-loop μ-loop
-same-length c = c .before .before .before .before .before .before .before .before .before .loop .inv .1
+same-length c =
+    let at-loop = c .before .before .before .before .before .before .before .before .before in
+    at-loop .loop .inv .1
 
 same-length-2 : tie.Need-same-length-2 Inv-loop μ-loop
-same-length-2 c = c .before .before .before .before .before .before .before .before .before .loop .inv .2
+same-length-2 c =
+    let at-loop = c .before .before .before .before .before .before .before .before .before in
+    at-loop .loop .inv .2
 
 same-length-3 : tie.Need-same-length-3 Inv-loop μ-loop
-same-length-3 c = c .before .before .before .before .before .before .before .before .before .loop .inv .3
+same-length-3 c =
+    let at-loop = c .before .before .before .before .before .before .before .before .before in
+    at-loop .loop .inv .3
 
 returns : tie.Need-returns Inv-loop μ-loop
-returns c = skip-stop _ _ _ _ _ _ _ _ _ (c .before .before .before .before .before .before .before .if1 .taken) (c .before .before .before .before .skip-trivia .ensures .0) (c .before .before .before .move-to .ensures) (c .before .before .peek .ensures) (c .before .is-trivia .ensures) (c .before .before .before .before .before .before .before .before .before .loop .inv .0) (c .if2 .left)
+returns c =
+    let at-is-trivia = c .before in
+    let at-peek = at-is-trivia .before in
+    let at-move-to = at-peek .before in
+    let at-skip-trivia = at-move-to .before in
+    let at-if1 = at-skip-trivia .before .before .before in
+    let at-loop = at-if1 .before .before in
+    skip-stop _ _ _ _ _ _ _ _ _ (at-if1 .if1 .taken) (at-skip-trivia .skip-trivia .ensures .0) (at-move-to .move-to .ensures)
+    (at-peek .peek .ensures) (at-is-trivia .is-trivia .ensures) (at-loop .loop .inv .0) (c .if2 .left)
 
 same-length-4 : tie.Need-same-length-4 Inv-loop μ-loop
 same-length-4 c = c .before .before .loop .inv .1

@@ -52,7 +52,12 @@ kind-if-requires-7 c κs = search needs
 
 returns : tie.Need-returns
 unfolding keywords
-returns c = keyword-at 114 _ _ _ (lit< tt) (c .before .before .before .before .before .before .pre .0) (c .before .before .before .before .match .keys1) (kind-more _ _ _ _ _ (kind-more _ _ _ _ _ (kind-none _) (c .before .kind-if .ensures)) (c .kind-if2 .ensures))
+returns c =
+    let at-kind-if = c .before in
+    let at-match = at-kind-if .before .before .before in
+    let at-pre = at-match .before .before in
+    keyword-at 114 _ _ _ (lit< tt) (at-pre .pre .0) (at-match .match .keys1)
+    (kind-more _ _ _ _ _ (kind-more _ _ _ _ _ (kind-none _) (at-kind-if .kind-if .ensures)) (c .kind-if2 .ensures))
 
 returns-2 : tie.Need-returns-2
 unfolding keywords
@@ -60,7 +65,12 @@ returns-2 c = keyword-at 115 _ _ _ (lit< tt) (c .before .before .before .before 
 
 returns-3 : tie.Need-returns-3
 unfolding keywords
-returns-3 c = keyword-at 116 _ _ _ (lit< tt) (c .before .before .before .before .before .before .pre .0) (c .before .before .before .before .match .keys3) (kind-more _ _ _ _ _ (kind-more _ _ _ _ _ (kind-none _) (c .before .kind-if4 .ensures)) (c .kind-if5 .ensures))
+returns-3 c =
+    let at-kind-if4 = c .before in
+    let at-match = at-kind-if4 .before .before .before in
+    let at-pre = at-match .before .before in
+    keyword-at 116 _ _ _ (lit< tt) (at-pre .pre .0) (at-match .match .keys3)
+    (kind-more _ _ _ _ _ (kind-more _ _ _ _ _ (kind-none _) (at-kind-if4 .kind-if4 .ensures)) (c .kind-if5 .ensures))
 
 returns-4 : tie.Need-returns-4
 unfolding keywords

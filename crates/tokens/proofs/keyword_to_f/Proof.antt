@@ -65,19 +65,39 @@ kind-if-requires-9 c κs = search needs
 
 returns : tie.Need-returns
 unfolding keywords
-returns c = keyword-at 97 _ _ _ (lit< tt) (c .before .before .before .before .before .before .pre .0) (c .before .before .before .before .match .keys1) (kind-more _ _ _ _ _ (kind-more _ _ _ _ _ (kind-none _) (c .before .kind-if .ensures)) (c .kind-if2 .ensures))
+returns c =
+    let at-kind-if = c .before in
+    let at-match = at-kind-if .before .before .before in
+    let at-pre = at-match .before .before in
+    keyword-at 97 _ _ _ (lit< tt) (at-pre .pre .0) (at-match .match .keys1)
+    (kind-more _ _ _ _ _ (kind-more _ _ _ _ _ (kind-none _) (at-kind-if .kind-if .ensures)) (c .kind-if2 .ensures))
 
 returns-2 : tie.Need-returns-2
 unfolding keywords
-returns-2 c = keyword-at 99 _ _ _ (lit< tt) (c .before .before .before .before .before .before .pre .0) (c .before .before .before .before .match .keys2) (kind-more _ _ _ _ _ (kind-more _ _ _ _ _ (kind-none _) (c .before .kind-if3 .ensures)) (c .kind-if4 .ensures))
+returns-2 c =
+    let at-kind-if3 = c .before in
+    let at-match = at-kind-if3 .before .before .before in
+    let at-pre = at-match .before .before in
+    keyword-at 99 _ _ _ (lit< tt) (at-pre .pre .0) (at-match .match .keys2)
+    (kind-more _ _ _ _ _ (kind-more _ _ _ _ _ (kind-none _) (at-kind-if3 .kind-if3 .ensures)) (c .kind-if4 .ensures))
 
 returns-3 : tie.Need-returns-3
 unfolding keywords
-returns-3 c = keyword-at 101 _ _ _ (lit< tt) (c .before .before .before .before .before .before .pre .0) (c .before .before .before .before .match .keys3) (kind-more _ _ _ _ _ (kind-more _ _ _ _ _ (kind-none _) (c .before .kind-if5 .ensures)) (c .kind-if6 .ensures))
+returns-3 c =
+    let at-kind-if5 = c .before in
+    let at-match = at-kind-if5 .before .before .before in
+    let at-pre = at-match .before .before in
+    keyword-at 101 _ _ _ (lit< tt) (at-pre .pre .0) (at-match .match .keys3)
+    (kind-more _ _ _ _ _ (kind-more _ _ _ _ _ (kind-none _) (at-kind-if5 .kind-if5 .ensures)) (c .kind-if6 .ensures))
 
 returns-4 : tie.Need-returns-4
 unfolding keywords
-returns-4 c = keyword-at 102 _ _ _ (lit< tt) (c .before .before .before .before .before .before .pre .0) (c .before .before .before .before .match .keys4) (kind-more _ _ _ _ _ (kind-more _ _ _ _ _ (kind-none _) (c .before .kind-if7 .ensures)) (c .kind-if8 .ensures))
+returns-4 c =
+    let at-kind-if7 = c .before in
+    let at-match = at-kind-if7 .before .before .before in
+    let at-pre = at-match .before .before in
+    keyword-at 102 _ _ _ (lit< tt) (at-pre .pre .0) (at-match .match .keys4)
+    (kind-more _ _ _ _ _ (kind-more _ _ _ _ _ (kind-none _) (at-kind-if7 .kind-if7 .ensures)) (c .kind-if8 .ensures))
 
 returns-5 : tie.Need-returns-5
 unfolding keywords

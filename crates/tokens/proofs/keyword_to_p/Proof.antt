@@ -58,7 +58,14 @@ kind-if-requires-8 c κs = search needs
 
 returns : tie.Need-returns
 unfolding keywords
-returns c = keyword-at 105 _ _ _ (lit< tt) (c .before .before .before .before .before .before .before .before .pre .0) (c .before .before .before .before .before .before .match .keys1) (kind-more _ _ _ _ _ (kind-more _ _ _ _ _ (kind-more _ _ _ _ _ (kind-none _) (c .before .before .before .before .kind-if .ensures)) (c .before .kind-if2 .ensures)) (c .kind-if3 .ensures))
+returns c =
+    let at-kind-if2 = c .before in
+    let at-kind-if = at-kind-if2 .before .before .before in
+    let at-match = at-kind-if .before .before in
+    let at-pre = at-match .before .before in
+    keyword-at 105 _ _ _ (lit< tt) (at-pre .pre .0) (at-match .match .keys1)
+    (kind-more _ _ _ _ _ (kind-more _ _ _ _ _ (kind-more _ _ _ _ _ (kind-none _) (at-kind-if .kind-if .ensures)) (at-kind-if2 .kind-if2 .ensures))
+    (c .kind-if3 .ensures))
 
 returns-2 : tie.Need-returns-2
 unfolding keywords
@@ -66,7 +73,12 @@ returns-2 c = keyword-at 108 _ _ _ (lit< tt) (c .before .before .before .before 
 
 returns-3 : tie.Need-returns-3
 unfolding keywords
-returns-3 c = keyword-at 109 _ _ _ (lit< tt) (c .before .before .before .before .before .before .pre .0) (c .before .before .before .before .match .keys3) (kind-more _ _ _ _ _ (kind-more _ _ _ _ _ (kind-none _) (c .before .kind-if5 .ensures)) (c .kind-if6 .ensures))
+returns-3 c =
+    let at-kind-if5 = c .before in
+    let at-match = at-kind-if5 .before .before .before in
+    let at-pre = at-match .before .before in
+    keyword-at 109 _ _ _ (lit< tt) (at-pre .pre .0) (at-match .match .keys3)
+    (kind-more _ _ _ _ _ (kind-more _ _ _ _ _ (kind-none _) (at-kind-if5 .kind-if5 .ensures)) (c .kind-if6 .ensures))
 
 returns-4 : tie.Need-returns-4
 unfolding keywords

@@ -38,8 +38,11 @@ enum-known-len c = search needs
 
 add-t16 : tie.Need-add-t16
 add-t16 c =
-    let h = character-fits _ _ _ (sym (c .before .before .before .character-at .ensures) ∙ c .before .len .given .1) in
-    omega (arith, length-drop (c .before .before .before .before .before .before .before .before .before .before .args .at) (c .before .before .before .before .before .before .before .before .before .before .args .text .now))
+    let at-len = c .before in
+    let at-character-at = at-len .before .before in
+    let at-args = at-character-at .before .before .before .before .before .before .before in
+    let h = character-fits _ _ _ (sym (at-character-at .character-at .ensures) ∙ at-len .len .given .1) in
+    omega (arith, length-drop (at-args .args .at) (at-args .args .text .now))
 
 enum-told-2 : tie.Need-enum-told-2
 enum-told-2 c = search needs
@@ -48,19 +51,36 @@ add-t17 : tie.Need-add-t17
 add-t17 c = search needs
 
 returns : tie.Need-returns
-returns c = fixed-at _ _ (c .before .before .before .before .before .before .before .pre .0) _ (c .before .before .before .before .byte-at .ensures) (c .before .before .before .before .before .before .before .pre .1) _ _ (ap matchOf (sym (c .before .kind .given .1)) ∙ c .before .before .before .punctuation .ensures)
+returns c =
+    let at-kind = c .before in
+    let at-punctuation = at-kind .before .before in
+    let at-byte-at = at-punctuation .before in
+    let at-pre = at-byte-at .before .before .before in
+    fixed-at _ _ (at-pre .pre .0) _ (at-byte-at .byte-at .ensures) (at-pre .pre .1) _ _
+    (ap matchOf (sym (at-kind .kind .given .1)) ∙ at-punctuation .punctuation .ensures)
 
 returns-2 : tie.Need-returns-2
 returns-2 c =
-    invalid-at _ _ (c .before .before .before .before .before .before .before .before .before .before .pre .0) _ (c .before .before .before .before .before .before .before .byte-at .ensures) (c .before .before .before .before .before .before .before .before .before .before .pre .1) _ _
-    (ap matchOf (sym (c .before .before .before .before .enum-told .given .1)) ∙ c .before .before .before .before .before .before .punctuation .ensures)
-    (sym (c .before .len .given .1) ∙ c .before .before .before .character-at .ensures) refl
+    let at-len = c .before in
+    let at-character-at = at-len .before .before in
+    let at-enum-told = at-character-at .before in
+    let at-punctuation = at-enum-told .before .before in
+    let at-byte-at = at-punctuation .before in
+    let at-pre = at-byte-at .before .before .before in
+    invalid-at _ _ (at-pre .pre .0) _ (at-byte-at .byte-at .ensures) (at-pre .pre .1) _ _
+    (ap matchOf (sym (at-enum-told .enum-told .given .1)) ∙ at-punctuation .punctuation .ensures)
+    (sym (at-len .len .given .1) ∙ at-character-at .character-at .ensures) refl
 
 returns-3 : tie.Need-returns-3
 returns-3 c =
-    invalid-at _ _ (c .before .before .before .before .before .before .before .before .before .pre .0) _ (c .before .before .before .before .before .before .byte-at .ensures) (c .before .before .before .before .before .before .before .before .before .pre .1) _ _
-    (ap matchOf (sym (c .before .before .before .enum-told .given .1)) ∙ c .before .before .before .before .before .punctuation .ensures)
-    (sym (c .enum-told2 .given .1) ∙ c .before .before .character-at .ensures) refl
+    let at-character-at = c .before .before in
+    let at-enum-told = at-character-at .before in
+    let at-punctuation = at-enum-told .before .before in
+    let at-byte-at = at-punctuation .before in
+    let at-pre = at-byte-at .before .before .before in
+    invalid-at _ _ (at-pre .pre .0) _ (at-byte-at .byte-at .ensures) (at-pre .pre .1) _ _
+    (ap matchOf (sym (at-enum-told .enum-told .given .1)) ∙ at-punctuation .punctuation .ensures)
+    (sym (c .enum-told2 .given .1) ∙ at-character-at .character-at .ensures) refl
 
 pub other-spec : {M : Type 1} → statement M
 other-spec =

@@ -21,7 +21,10 @@ is-decimal-requires : tie.Need-is-decimal-requires
 is-decimal-requires c κs = search needs
 
 numeral-requires : tie.Need-numeral-requires
-numeral-requires c κs = (c .before .before .before .before .before .before .pre, sym (c .before .is-decimal .ensures) ∙ c .if2 .taken)
+numeral-requires c κs =
+    let at-is-decimal = c .before in
+    let at-pre = at-is-decimal .before .before .before .before .before in
+    (at-pre .pre, sym (at-is-decimal .is-decimal .ensures) ∙ c .if2 .taken)
 
 returns-2 : tie.Need-returns-2
 returns-2 c = search needs
@@ -36,7 +39,11 @@ blank-end-requires : tie.Need-blank-end-requires
 blank-end-requires c κs = search needs
 
 returns-3 : tie.Need-returns-3
-returns-3 c = blank-at _ _ (c .before .before .before .before .before .before .before .before .before .pre) _ (sym (c .before .before .is-blank .ensures) ∙ c .before .if3 .taken) (c .blank-end .ensures)
+returns-3 c =
+    let at-if3 = c .before in
+    let at-is-blank = at-if3 .before in
+    let at-pre = at-is-blank .before .before .before .before .before .before .before in
+    blank-at _ _ (at-pre .pre) _ (sym (at-is-blank .is-blank .ensures) ∙ at-if3 .if3 .taken) (c .blank-end .ensures)
 
 add-string : tie.Need-add-string
 add-string c = search needs
@@ -45,26 +52,40 @@ string-requires : tie.Need-string-requires
 string-requires c κs = search needs
 
 slash-requires : tie.Need-slash-requires
-slash-requires c κs = (c .before .before .before .before .before .before .before .before .before .pre, c .match .keys2)
+slash-requires c κs =
+    let at-pre = c .before .before .before .before .before .before .before .before .before in
+    (at-pre .pre, c .match .keys2)
 
 at-sign-requires : tie.Need-at-sign-requires
-at-sign-requires c κs = (c .before .before .before .before .before .before .before .before .before .pre, c .match .keys3)
+at-sign-requires c κs =
+    let at-pre = c .before .before .before .before .before .before .before .before .before in
+    (at-pre .pre, c .match .keys3)
 
 other-requires : tie.Need-other-requires
-other-requires c κs = (
-  c .before .before .before .before .before .before .before .before .before .pre,
-  record {
-    start = sym (c .before .before .before .before .before .before .is-ident-start .ensures) ∙ c .before .before .before .before .before .if1 .left;
-    number = sym (c .before .before .before .before .is-decimal .ensures) ∙ c .before .before .before .if2 .left;
-    blanks = sym (c .before .before .is-blank .ensures) ∙ c .before .if3 .left;
-    quote = c .match .rest .0 .0 .1;
-    slash = c .match .rest .0 .1;
-    sign = c .match .rest .1;
-  },
-)
+other-requires c κs =
+    let at-if3 = c .before in
+    let at-is-blank = at-if3 .before in
+    let at-if2 = at-is-blank .before in
+    let at-is-decimal = at-if2 .before in
+    let at-if1 = at-is-decimal .before in
+    let at-is-ident-start = at-if1 .before in
+    let at-pre = at-is-ident-start .before .before .before in (
+      at-pre .pre,
+      record {
+        start = sym (at-is-ident-start .is-ident-start .ensures) ∙ at-if1 .if1 .left;
+        number = sym (at-is-decimal .is-decimal .ensures) ∙ at-if2 .if2 .left;
+        blanks = sym (at-is-blank .is-blank .ensures) ∙ at-if3 .if3 .left;
+        quote = c .match .rest .0 .0 .1;
+        slash = c .match .rest .0 .1;
+        sign = c .match .rest .1;
+      },
+    )
 
 returns-4 : tie.Need-returns-4
-returns-4 c = quote-at _ _ (c .before .before .before .before .before .before .before .before .before .before .pre) _ (c .before .match .keys1) (c .string .ensures)
+returns-4 c =
+    let at-match = c .before in
+    let at-pre = at-match .before .before .before .before .before .before .before .before .before in
+    quote-at _ _ (at-pre .pre) _ (at-match .match .keys1) (c .string .ensures)
 
 returns-5 : tie.Need-returns-5
 returns-5 c = search needs

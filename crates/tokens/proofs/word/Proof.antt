@@ -33,7 +33,9 @@ part-keyword-start : tie.Need-part-keyword-start
 part-keyword-start c = search needs
 
 part-keyword-end : tie.Need-part-keyword-end
-part-keyword-end c = word-fits _ _ (c .before .before .before .before .before .pre .0) _ (c .ident-end .ensures) .1
+part-keyword-end c =
+    let at-pre = c .before .before .before .before .before in
+    word-fits _ _ (at-pre .pre .0) _ (c .ident-end .ensures) .1
 
 keyword-requires : tie.Need-keyword-requires
 keyword-requires c κs = search needs

@@ -20,7 +20,12 @@ enum-known-n c = search needs
 
 code-point-requires : tie.Need-code-point-requires
 code-point-requires c κs =
-    let f = fits (c .before .before .before .before .before .before .args .text .now) (c .before .before .before .before .before .before .args .at) (c .before .before .before .before .if1 .left) (c .before .n .given .0 .0) (sym (c .before .before .before .sequence-at .ensures) ∙ c .before .n .given .1) in
+    let at-n = c .before in
+    let at-sequence-at = at-n .before .before in
+    let at-if1 = at-sequence-at .before in
+    let at-args = at-if1 .before .before in
+    let f = fits (at-args .args .text .now) (at-args .args .at) (at-if1 .if1 .left) (at-n .n .given .0 .0)
+    (sym (at-sequence-at .sequence-at .ensures) ∙ at-n .n .given .1) in
     (f .within, f .some, f .four)
 
 enum-told : tie.Need-enum-told
@@ -28,8 +33,11 @@ enum-told c = search needs
 
 returns-2 : tie.Need-returns-2
 returns-2 c =
+    let at-n = c .before .before in
+    let at-sequence-at = at-n .before .before in
+    let at-if1 = at-sequence-at .before in
     rw (c .code-point .ensures)
-    (sym (look-right _ _ (c .before .before .before .before .before .if1 .left) _ (sym (c .before .before .before .before .sequence-at .ensures) ∙ c .before .before .n .given .1)))
+    (sym (look-right _ _ (at-if1 .if1 .left) _ (sym (at-sequence-at .sequence-at .ensures) ∙ at-n .n .given .1)))
 
 returns-3 : tie.Need-returns-3
 returns-3 c = sym (look-wrong _ _ (c .before .before .before .if1 .left) _ (sym (c .before .before .sequence-at .ensures) ∙ c .enum-told .given .1))

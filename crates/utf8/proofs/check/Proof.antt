@@ -37,28 +37,38 @@ loop-less c = omega (arith, arm c)
 
 loop-again : tie.Need-loop-again Inv-loop μ-loop
 loop-again c =
+    let at-n = c .before in
+    let at-sequence-at = at-n .before .before in
+    let at-loop-test = at-sequence-at .before in
+    let at-loop = at-loop-test .before in
+    let at-args = at-loop .before .before in
     let w =
     walk-right
-    (c .before .before .before .before .before .before .before .args .text .now)
-    (c .before .before .before .before .before .loop .at)
-    (c .before .before .before .before .loop-test .taken)
-    (c .before .n .given .0 .0)
-    (sym (c .before .before .before .sequence-at .ensures) ∙ c .before .n .given .1) in
-    (arm c .within, sym w ∙ c .before .before .before .before .before .loop .inv .1)
+    (at-args .args .text .now)
+    (at-loop .loop .at)
+    (at-loop-test .loop-test .taken)
+    (at-n .n .given .0 .0)
+    (sym (at-sequence-at .sequence-at .ensures) ∙ at-n .n .given .1) in
+    (arm c .within, sym w ∙ at-loop .loop .inv .1)
 
 enum-known-way : tie.Need-enum-known-way Inv-loop μ-loop
 enum-known-way c = search needs
 
 returns : tie.Need-returns Inv-loop μ-loop
 returns c =
+    let at-way = c .before in
+    let at-sequence-at = at-way .before .before in
+    let at-loop-test = at-sequence-at .before in
+    let at-loop = at-loop-test .before in
+    let at-args = at-loop .before .before in
     let w =
     walk-wrong
-    (c .before .before .before .before .before .before .before .args .text .now)
-    (c .before .before .before .before .before .loop .at)
-    (c .before .before .before .before .loop-test .taken)
-    (c .before .way .given .0 .0)
-    (sym (c .before .before .before .sequence-at .ensures) ∙ c .before .way .given .1) in
-    sym w ∙ c .before .before .before .before .before .loop .inv .1
+    (at-args .args .text .now)
+    (at-loop .loop .at)
+    (at-loop-test .loop-test .taken)
+    (at-way .way .given .0 .0)
+    (sym (at-sequence-at .sequence-at .ensures) ∙ at-way .way .given .1) in
+    sym w ∙ at-loop .loop .inv .1
 
 returns-2 : tie.Need-returns-2 Inv-loop μ-loop
 unfolding checkedFrom

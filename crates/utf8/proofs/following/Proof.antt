@@ -33,15 +33,21 @@ shared-slice-read-byte c = omega arith
 
 returns-2 : tie.Need-returns-2 Inv-loop μ-loop
 returns-2 c =
-    let a = c .before .before .before .before .before .args in
-    let l = c .before .before .before .before .loop in
-    sym (below (a .text .now) (a .at) (a .whole) (l .n) (l .lo) (l .hi) (c .before .before .before .loop-test .taken) (omega arith) (c .if2 .taken)) ∙ l .inv
+    let at-loop-test = c .before .before .before in
+    let at-loop = at-loop-test .before in
+    let at-args = at-loop .before in
+    let a = at-args .args in
+    let l = at-loop .loop in
+    sym (below (a .text .now) (a .at) (a .whole) (l .n) (l .lo) (l .hi) (at-loop-test .loop-test .taken) (omega arith) (c .if2 .taken)) ∙ l .inv
 
 returns-3 : tie.Need-returns-3 Inv-loop μ-loop
 returns-3 c =
-    let a = c .before .before .before .before .before .before .args in
-    let l = c .before .before .before .before .before .loop in
-    sym (above (a .text .now) (a .at) (a .whole) (l .n) (l .lo) (l .hi) (c .before .before .before .before .loop-test .taken) (omega arith) (c .if3 .taken)) ∙ l .inv
+    let at-loop-test = c .before .before .before .before in
+    let at-loop = at-loop-test .before in
+    let at-args = at-loop .before in
+    let a = at-args .args in
+    let l = at-loop .loop in
+    sym (above (a .text .now) (a .at) (a .whole) (l .n) (l .lo) (l .hi) (at-loop-test .loop-test .taken) (omega arith) (c .if3 .taken)) ∙ l .inv
 
 add-n : tie.Need-add-n Inv-loop μ-loop
 add-n c = omega arith
@@ -51,9 +57,14 @@ loop-less c = omega arith
 
 loop-again : tie.Need-loop-again Inv-loop μ-loop
 loop-again c =
-    let a = c .before .before .before .before .before .before .args in
-    let l = c .before .before .before .before .before .loop in
-    sym (turn (a .text .now) (a .at) (a .whole) (l .n) (l .lo) (l .hi) (c .before .before .before .before .loop-test .taken) (omega arith) (c .before .if2 .left) (c .if3 .left)) ∙ l .inv
+    let at-if2 = c .before in
+    let at-loop-test = at-if2 .before .before .before in
+    let at-loop = at-loop-test .before in
+    let at-args = at-loop .before in
+    let a = at-args .args in
+    let l = at-loop .loop in
+    sym (turn (a .text .now) (a .at) (a .whole) (l .n) (l .lo) (l .hi) (at-loop-test .loop-test .taken) (omega arith) (at-if2 .if2 .left)
+    (c .if3 .left)) ∙ l .inv
 
 returns-4 : tie.Need-returns-4 Inv-loop μ-loop
 returns-4 c =

@@ -78,7 +78,9 @@ returns-10 c = c .following8 .ensures ∙ sym (in-row _ _ 8 table _ _ refl refl 
 returns-11 : tie.Need-returns-11
 unfolding table
 returns-11 c =
-    let byte = c .before .before .before .before .before .before .before .before .before .before .shared-slice-known2 .given (c .before .before .before .before .before .before .before .before .before .before .before .before .args .at) in
+    let at-shared-slice-known2 = c .before .before .before .before .before .before .before .before .before .before in
+    let at-args = at-shared-slice-known2 .before .before in
+    let byte = at-shared-slice-known2 .shared-slice-known2 .given (at-args .args .at) in
     sym (no-row _ _ 0xF5 0xFF 9 table refl refl (omega arith) (omega arith))
 
 pub sequence-at-spec : {M : Type 1} → statement M

@@ -1,7 +1,6 @@
 -- `peek` meets its contract.
 use mathlib.Core.Path.{sym, _∙_, ap}
-use Rattle.words.specs.Words.{tokenKind, tokenWord}
-use Rattle.words.specs.Token
+use Rattle.words.specs.Words.{tokenKind}
 use Rattle.definition.specs.Quiet.{kind-inside, kind-past, kind-over, word-inside}
 use borrow.Author.Needs.{needs}
 use Rattle.definition.proofs.Cursor.peek.Statement.{statement}
@@ -20,7 +19,12 @@ token-kind-requires : tie.Need-token-kind-requires
 token-kind-requires c κs = search needs
 
 returns : tie.Need-returns
-returns c = c .token-kind .ensures ∙ (ap tokenKind (word-inside (c .before .before .before .before .before .before .args .tokens .now) _ (c .before .before .if2 .taken)) ∙ sym (kind-inside _ _ (c .before .before .before .if1 .taken)))
+returns c =
+    let at-if2 = c .before .before in
+    let at-if1 = at-if2 .before in
+    let at-args = at-if1 .before .before .before in
+    c .token-kind .ensures ∙ (ap tokenKind (word-inside (at-args .args .tokens .now) _ (at-if2 .if2 .taken)) ∙ sym
+    (kind-inside _ _ (at-if1 .if1 .taken)))
 
 returns-2 : tie.Need-returns-2
 returns-2 c = kind-past _ _ (c .if2 .left)

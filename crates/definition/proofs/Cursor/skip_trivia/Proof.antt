@@ -29,13 +29,26 @@ loop-less : tie.Need-loop-less Inv-loop μ-loop
 loop-less c = advanced-falls _ _ (c .before .before .before .before .if1 .taken) (c .advance .ensures .0)
 
 loop-again : tie.Need-loop-again Inv-loop μ-loop
-loop-again c = (
-  quiet-next _ _ _ _ _ _ (c .before .before .before .before .if1 .taken) (c .before .before .before .peek .ensures) (c .before .before .is-quiet .ensures) (c .before .if2 .taken) (c .advance .ensures .0) (c .before .before .before .before .before .before .loop .inv .0),
-  omega (arith, c .before .before .before .before .before .before .loop .inv .1, c .advance .ensures .1),
-)
+loop-again c =
+    let at-if2 = c .before in
+    let at-is-quiet = at-if2 .before in
+    let at-peek = at-is-quiet .before in
+    let at-if1 = at-peek .before in
+    let at-loop = at-if1 .before .before in (
+      quiet-next _ _ _ _ _ _ (at-if1 .if1 .taken) (at-peek .peek .ensures) (at-is-quiet .is-quiet .ensures) (at-if2 .if2 .taken) (c .advance .ensures .0)
+          (at-loop .loop .inv .0),
+      omega (arith, at-loop .loop .inv .1, c .advance .ensures .1),
+    )
 
 returns : tie.Need-returns Inv-loop μ-loop
-returns c = (quiet-stop _ _ _ _ _ (c .before .before .before .if1 .taken) (c .before .before .peek .ensures) (c .before .is-quiet .ensures) (c .if2 .left) (c .before .before .before .before .before .loop .inv .0), c .before .before .before .before .before .loop .inv .1)
+returns c =
+    let at-is-quiet = c .before in
+    let at-peek = at-is-quiet .before in
+    let at-if1 = at-peek .before in
+    let at-loop = at-if1 .before .before in (
+      quiet-stop _ _ _ _ _ (at-if1 .if1 .taken) (at-peek .peek .ensures) (at-is-quiet .is-quiet .ensures) (c .if2 .left) (at-loop .loop .inv .0),
+      at-loop .loop .inv .1,
+    )
 
 returns-2 : tie.Need-returns-2 Inv-loop μ-loop
 returns-2 c = (quiet-over _ _ _ (c .if1 .left) (c .before .before .loop .inv .0), c .before .before .loop .inv .1)

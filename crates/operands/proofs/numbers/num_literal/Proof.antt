@@ -24,30 +24,56 @@ enum-told : tie.Need-enum-told
 enum-told c = search needs
 
 same-length : tie.Need-same-length
-same-length c = c .before .before .before .before .before .before .before .alloc-last-token-as-node .kept .1 .1 .1 .1 .0 ∙ c .before .before .before .before .before .before .before .before .before .before .before .before .before .before .before .before .before .before .before .before .before .before .try-parse-num-literal .kept .1 .1 .1 .1 .0
+same-length c =
+    let at-alloc-last-token-as-node = c .before .before .before .before .before .before .before in
+    let at-try-parse-num-literal = at-alloc-last-token-as-node .before .before .before .before .before .before .before .before .before .before .before .before .before .before .before in
+    at-alloc-last-token-as-node .alloc-last-token-as-node .kept .1 .1 .1 .1 .0 ∙ at-try-parse-num-literal .try-parse-num-literal .kept .1 .1 .1 .1 .0
 
 same-length-2 : tie.Need-same-length-2
-same-length-2 c = c .before .before .before .before .before .before .before .alloc-last-token-as-node .kept .1 .1 .1 .1 .1 .0 ∙ c .before .before .before .before .before .before .before .before .before .before .before .before .before .before .before .before .before .before .before .before .before .before .try-parse-num-literal .kept .1 .1 .1 .1 .1 .0
+same-length-2 c =
+    let at-alloc-last-token-as-node = c .before .before .before .before .before .before .before in
+    let at-try-parse-num-literal = at-alloc-last-token-as-node .before .before .before .before .before .before .before .before .before .before .before .before .before .before .before in
+    at-alloc-last-token-as-node .alloc-last-token-as-node .kept .1 .1 .1 .1 .1 .0
+    ∙ at-try-parse-num-literal .try-parse-num-literal .kept .1 .1 .1 .1 .1 .0
 
 same-length-3 : tie.Need-same-length-3
-same-length-3 c = c .before .before .before .before .before .before .before .alloc-last-token-as-node .kept .1 .1 .1 .1 .1 .1 .0 ∙ c .before .before .before .before .before .before .before .before .before .before .before .before .before .before .before .before .before .before .before .before .before .before .try-parse-num-literal .kept .1 .1 .1 .1 .1 .1 .0
+same-length-3 c =
+    let at-alloc-last-token-as-node = c .before .before .before .before .before .before .before in
+    let at-try-parse-num-literal = at-alloc-last-token-as-node .before .before .before .before .before .before .before .before .before .before .before .before .before .before .before in
+    at-alloc-last-token-as-node .alloc-last-token-as-node .kept .1 .1 .1 .1 .1 .1 .0
+    ∙ at-try-parse-num-literal .try-parse-num-literal .kept .1 .1 .1 .1 .1 .1 .0
 
 returns : tie.Need-returns
 unfolding numLiteral
-returns c = then (rw (c .before .before .before .before .before .before .before .before .before .before .before .before .before .value .given .1) at (c .before .before .before .before .before .before .before .before .before .before .before .before .before .before .before .before .before .before .before .before .before .before .try-parse-num-literal .ensures)) (then (cut-last Node.NumLiteral _ (rw (c .before .before .before .before .before .before .before .before .payload .ensures) at (c .before .before .before .before .before .before .before .alloc-last-token-as-node .ensures))) gives)
+returns c =
+    let at-alloc-last-token-as-node = c .before .before .before .before .before .before .before in
+    let at-payload = at-alloc-last-token-as-node .before in
+    let at-value = at-payload .before .before .before .before .before in
+    let at-try-parse-num-literal = at-value .before .before .before .before .before .before .before .before .before in
+    then (rw (at-value .value .given .1) at (at-try-parse-num-literal .try-parse-num-literal .ensures))
+    (then (cut-last Node.NumLiteral _ (rw (at-payload .payload .ensures) at
+    (at-alloc-last-token-as-node .alloc-last-token-as-node .ensures))) gives)
 
 same-length-4 : tie.Need-same-length-4
-same-length-4 c = c .before .before .before .before .before .before .before .before .before .try-parse-num-literal .kept .1 .1 .1 .1 .0
+same-length-4 c =
+    let at-try-parse-num-literal = c .before .before .before .before .before .before .before .before .before in
+    at-try-parse-num-literal .try-parse-num-literal .kept .1 .1 .1 .1 .0
 
 same-length-5 : tie.Need-same-length-5
-same-length-5 c = c .before .before .before .before .before .before .before .before .before .try-parse-num-literal .kept .1 .1 .1 .1 .1 .0
+same-length-5 c =
+    let at-try-parse-num-literal = c .before .before .before .before .before .before .before .before .before in
+    at-try-parse-num-literal .try-parse-num-literal .kept .1 .1 .1 .1 .1 .0
 
 same-length-6 : tie.Need-same-length-6
-same-length-6 c = c .before .before .before .before .before .before .before .before .before .try-parse-num-literal .kept .1 .1 .1 .1 .1 .1 .0
+same-length-6 c =
+    let at-try-parse-num-literal = c .before .before .before .before .before .before .before .before .before in
+    at-try-parse-num-literal .try-parse-num-literal .kept .1 .1 .1 .1 .1 .1 .0
 
 returns-2 : tie.Need-returns-2
 unfolding numLiteral
-returns-2 c = then (rw (c .enum-told .given .1) at (c .before .before .before .before .before .before .before .before .before .try-parse-num-literal .ensures)) gives
+returns-2 c =
+    let at-try-parse-num-literal = c .before .before .before .before .before .before .before .before .before in
+    then (rw (c .enum-told .given .1) at (at-try-parse-num-literal .try-parse-num-literal .ensures)) gives
 
 pub num-literal-spec : {M : Type 1} → statement M
 num-literal-spec =

@@ -13,16 +13,28 @@ number-requires : tie.Need-number-requires
 number-requires c κs = search needs
 
 same-length : tie.Need-same-length
-same-length c = c .before .before .before .before .before .before .before .number .kept .1 .1 .1 .1 .0 ∙ c .before .before .before .before .before .before .before .before .before .before .before .before .before .before .before .before .before .pass .kept .1 .1 .1 .1 .0
+same-length c =
+    let at-number = c .before .before .before .before .before .before .before in
+    let at-pass = at-number .before .before .before .before .before .before .before .before .before .before in
+    at-number .number .kept .1 .1 .1 .1 .0 ∙ at-pass .pass .kept .1 .1 .1 .1 .0
 
 same-length-2 : tie.Need-same-length-2
-same-length-2 c = c .before .before .before .before .before .before .before .number .kept .1 .1 .1 .1 .1 .0 ∙ c .before .before .before .before .before .before .before .before .before .before .before .before .before .before .before .before .before .pass .kept .1 .1 .1 .1 .1 .0
+same-length-2 c =
+    let at-number = c .before .before .before .before .before .before .before in
+    let at-pass = at-number .before .before .before .before .before .before .before .before .before .before in
+    at-number .number .kept .1 .1 .1 .1 .1 .0 ∙ at-pass .pass .kept .1 .1 .1 .1 .1 .0
 
 same-length-3 : tie.Need-same-length-3
-same-length-3 c = c .before .before .before .before .before .before .before .number .kept .1 .1 .1 .1 .1 .1 .0 ∙ c .before .before .before .before .before .before .before .before .before .before .before .before .before .before .before .before .before .pass .kept .1 .1 .1 .1 .1 .1 .0
+same-length-3 c =
+    let at-number = c .before .before .before .before .before .before .before in
+    let at-pass = at-number .before .before .before .before .before .before .before .before .before .before in
+    at-number .number .kept .1 .1 .1 .1 .1 .1 .0 ∙ at-pass .pass .kept .1 .1 .1 .1 .1 .1 .0
 
 returns : tie.Need-returns
-returns c = then spelling-is (then (c .before .before .before .before .before .before .before .before .before .before .before .before .before .before .before .before .before .pass .ensures) (then (c .before .before .before .before .before .before .before .number .ensures) gives))
+returns c =
+    let at-number = c .before .before .before .before .before .before .before in
+    let at-pass = at-number .before .before .before .before .before .before .before .before .before .before in
+    then spelling-is (then (at-pass .pass .ensures) (then (at-number .number .ensures) gives))
 
 pub number-of-spec : {M : Type 1} → statement M
 number-of-spec =

@@ -44,30 +44,51 @@ enum-known-next : tie.Need-enum-known-next Inv-loop μ-loop
 enum-known-next c = search needs
 
 loop-less : tie.Need-loop-less Inv-loop μ-loop
-loop-less c = omega (arith, c .before .before .before .before .before .before .before .before .before .before .before .before .before .before .before .before .before .loop-test .taken)
+loop-less c =
+    let at-loop-test = c .before .before .before .before .before .before .before .before .before .before .before .before .before .before .before .before .before in
+    omega (arith, at-loop-test .loop-test .taken)
 
 loop-again : tie.Need-loop-again Inv-loop μ-loop
-loop-again c = (
-  gather-next _ _ _ _ _ _ _ _ _ _ _ _ _ _ (c .before .before .before .before .before .before .before .before .before .before .before .before .before .before .before .before .before .before .loop .inv .0) (c .before .before .before .before .before .before .before .before .before .before .before .before .before .before .before .before .before .loop-test .taken) _ _ _ _ _ _ (c .before .before .before .before .before .before .before .before .before .before .string-turn .ensures) _ (c .before .next .given .1),
-  c .before .before .before .before .before .before .before .before .before .before .string-turn .kept .1 .1 .1 .1 .0 ∙ c .before .before .before .before .before .before .before .before .before .before .before .before .before .before .before .before .before .before .loop .inv .1,
-  c .before .before .before .before .before .before .before .before .before .before .string-turn .kept .1 .1 .1 .1 .1 .0 ∙ c .before .before .before .before .before .before .before .before .before .before .before .before .before .before .before .before .before .before .loop .inv .2,
-  c .before .before .before .before .before .before .before .before .before .before .string-turn .kept .1 .1 .1 .1 .1 .1 .0 ∙ c .before .before .before .before .before .before .before .before .before .before .before .before .before .before .before .before .before .before .loop .inv .3,
-)
+loop-again c =
+    let at-next = c .before in
+    let at-string-turn = at-next .before .before .before .before .before .before .before .before .before in
+    let at-loop-test = at-string-turn .before .before .before .before .before .before .before in
+    let at-loop = at-loop-test .before in (
+      gather-next _ _ _ _ _ _ _ _ _ _ _ _ _ _ (at-loop .loop .inv .0) (at-loop-test .loop-test .taken) _ _ _ _ _ _
+          (at-string-turn .string-turn .ensures) _ (at-next .next .given .1),
+      at-string-turn .string-turn .kept .1 .1 .1 .1 .0 ∙ at-loop .loop .inv .1,
+      at-string-turn .string-turn .kept .1 .1 .1 .1 .1 .0 ∙ at-loop .loop .inv .2,
+      at-string-turn .string-turn .kept .1 .1 .1 .1 .1 .1 .0 ∙ at-loop .loop .inv .3,
+    )
 
 enum-told : tie.Need-enum-told Inv-loop μ-loop
 enum-told c = search needs
 
 same-length-4 : tie.Need-same-length-4 Inv-loop μ-loop
-same-length-4 c = c .before .before .before .before .before .before .before .before .before .string-turn .kept .1 .1 .1 .1 .0 ∙ c .before .before .before .before .before .before .before .before .before .before .before .before .before .before .before .before .before .loop .inv .1
+same-length-4 c =
+    let at-string-turn = c .before .before .before .before .before .before .before .before .before in
+    let at-loop = at-string-turn .before .before .before .before .before .before .before .before in
+    at-string-turn .string-turn .kept .1 .1 .1 .1 .0 ∙ at-loop .loop .inv .1
 
 same-length-5 : tie.Need-same-length-5 Inv-loop μ-loop
-same-length-5 c = c .before .before .before .before .before .before .before .before .before .string-turn .kept .1 .1 .1 .1 .1 .0 ∙ c .before .before .before .before .before .before .before .before .before .before .before .before .before .before .before .before .before .loop .inv .2
+same-length-5 c =
+    let at-string-turn = c .before .before .before .before .before .before .before .before .before in
+    let at-loop = at-string-turn .before .before .before .before .before .before .before .before in
+    at-string-turn .string-turn .kept .1 .1 .1 .1 .1 .0 ∙ at-loop .loop .inv .2
 
 same-length-6 : tie.Need-same-length-6 Inv-loop μ-loop
-same-length-6 c = c .before .before .before .before .before .before .before .before .before .string-turn .kept .1 .1 .1 .1 .1 .1 .0 ∙ c .before .before .before .before .before .before .before .before .before .before .before .before .before .before .before .before .before .loop .inv .3
+same-length-6 c =
+    let at-string-turn = c .before .before .before .before .before .before .before .before .before in
+    let at-loop = at-string-turn .before .before .before .before .before .before .before .before in
+    at-string-turn .string-turn .kept .1 .1 .1 .1 .1 .1 .0 ∙ at-loop .loop .inv .3
 
 returns-2 : tie.Need-returns-2 Inv-loop μ-loop
-returns-2 c = gather-last _ _ _ _ _ _ _ _ _ _ _ _ _ _ (c .before .before .before .before .before .before .before .before .before .before .before .before .before .before .before .before .before .loop .inv .0) (c .before .before .before .before .before .before .before .before .before .before .before .before .before .before .before .before .loop-test .taken) _ _ _ _ _ _ (c .before .before .before .before .before .before .before .before .before .string-turn .ensures) (c .enum-told .given .1)
+returns-2 c =
+    let at-string-turn = c .before .before .before .before .before .before .before .before .before in
+    let at-loop-test = at-string-turn .before .before .before .before .before .before .before in
+    let at-loop = at-loop-test .before in
+    gather-last _ _ _ _ _ _ _ _ _ _ _ _ _ _ (at-loop .loop .inv .0) (at-loop-test .loop-test .taken) _ _ _ _ _ _
+    (at-string-turn .string-turn .ensures) (c .enum-told .given .1)
 
 same-length-7 : tie.Need-same-length-7 Inv-loop μ-loop
 same-length-7 c = c .before .loop .inv .1

@@ -24,16 +24,42 @@ close-node-at-requires : tie.Need-close-node-at-requires
 close-node-at-requires c κs = search needs
 
 same-length : tie.Need-same-length
-same-length c = c .before .before .before .before .before .before .before .close-node-at .kept .1 .1 .1 .1 .0 ∙ c .before .before .before .before .before .before .before .before .before .before .before .before .before .before .before .before .before .before .before .open-from .kept .1 .1 .1 .1 .0 ∙ c .before .before .before .before .before .before .before .before .before .before .before .before .before .before .before .before .before .before .before .before .before .before .before .before .before .before .before .before .before .before .before .string-value .kept .1 .1 .1 .1 .0
+same-length c =
+    let at-close-node-at = c .before .before .before .before .before .before .before in
+    let at-open-from = at-close-node-at .before .before .before .before .before .before .before .before .before .before .before .before in
+    let at-string-value = at-open-from .before .before .before .before .before .before .before .before .before .before .before .before in
+    at-close-node-at .close-node-at .kept .1 .1 .1 .1 .0 ∙ at-open-from .open-from .kept .1 .1 .1 .1 .0
+    ∙ at-string-value .string-value .kept .1 .1 .1 .1 .0
 
 same-length-2 : tie.Need-same-length-2
-same-length-2 c = c .before .before .before .before .before .before .before .close-node-at .kept .1 .1 .1 .1 .1 .0 ∙ c .before .before .before .before .before .before .before .before .before .before .before .before .before .before .before .before .before .before .before .open-from .kept .1 .1 .1 .1 .1 .0 ∙ c .before .before .before .before .before .before .before .before .before .before .before .before .before .before .before .before .before .before .before .before .before .before .before .before .before .before .before .before .before .before .before .string-value .kept .1 .1 .1 .1 .1 .0
+same-length-2 c =
+    let at-close-node-at = c .before .before .before .before .before .before .before in
+    let at-open-from = at-close-node-at .before .before .before .before .before .before .before .before .before .before .before .before in
+    let at-string-value = at-open-from .before .before .before .before .before .before .before .before .before .before .before .before in
+    at-close-node-at .close-node-at .kept .1 .1 .1 .1 .1 .0 ∙ at-open-from .open-from .kept .1 .1 .1 .1 .1 .0
+    ∙ at-string-value .string-value .kept .1 .1 .1 .1 .1 .0
 
 same-length-3 : tie.Need-same-length-3
-same-length-3 c = c .before .before .before .before .before .before .before .close-node-at .kept .1 .1 .1 .1 .1 .1 .0 ∙ c .before .before .before .before .before .before .before .before .before .before .before .before .before .before .before .before .before .before .before .open-from .kept .1 .1 .1 .1 .1 .1 .0 ∙ c .before .before .before .before .before .before .before .before .before .before .before .before .before .before .before .before .before .before .before .before .before .before .before .before .before .before .before .before .before .before .before .string-value .kept .1 .1 .1 .1 .1 .1 .0
+same-length-3 c =
+    let at-close-node-at = c .before .before .before .before .before .before .before in
+    let at-open-from = at-close-node-at .before .before .before .before .before .before .before .before .before .before .before .before in
+    let at-string-value = at-open-from .before .before .before .before .before .before .before .before .before .before .before .before in
+    at-close-node-at .close-node-at .kept .1 .1 .1 .1 .1 .1 .0 ∙ at-open-from .open-from .kept .1 .1 .1 .1 .1 .1 .0
+    ∙ at-string-value .string-value .kept .1 .1 .1 .1 .1 .1 .0
 
 returns-2 : tie.Need-returns-2
-returns-2 c = record { does = λ lent bs k. then (c .before .before .before .before .before .before .before .before .before .before .before .before .before .before .before .before .before .before .before .before .before .before .before .before .before .before .before .before .before .before .before .string-value .ensures .does lent bs (k (c .before .before .before .before .before .before .before .before .before .before .before .before .before .before .before .before .before .before .before .before .before .before .before .before .before .before .before .before .before .before .before .before .before .before .before .if1 .left))) (then (cut-from (c .before .before .before .before .before .before .before .before .before .before .before .before .before .before .before .before .before .before .before .before .before .before .before .before .before .before .before .before .before .before .before .before .before .before .before .before .before .before .before .before .before .before .before .args .start) Node.StringLiteral _ (rw (c .before .before .before .before .before .before .before .before .before .before .before .before .before .before .before .before .before .before .before .before .before .before .before .payload .ensures) at (c .before .before .before .before .before .before .before .before .before .before .before .before .before .before .before .before .before .before .before .open-from .ensures))) (then (c .before .before .before .before .before .before .before .close-node-at .ensures) gives)) }
+returns-2 c =
+    let at-close-node-at = c .before .before .before .before .before .before .before in
+    let at-open-from = at-close-node-at .before .before .before .before .before .before .before .before .before .before .before .before in
+    let at-payload = at-open-from .before .before .before .before in
+    let at-string-value = at-payload .before .before .before .before .before .before .before .before in
+    let at-if1 = at-string-value .before .before .before .before in
+    let at-args = at-if1 .before .before .before .before .before .before .before .before in
+    record {
+      does = λ lent bs k. then (at-string-value .string-value .ensures .does lent bs (k (at-if1 .if1 .left)))
+          (then (cut-from (at-args .args .start) Node.StringLiteral _ (rw (at-payload .payload .ensures) at (at-open-from .open-from .ensures)))
+          (then (at-close-node-at .close-node-at .ensures) gives));
+    }
 
 pub string-node-spec : {M : Type 1} → statement M
 string-node-spec =

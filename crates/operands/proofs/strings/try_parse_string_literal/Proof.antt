@@ -21,28 +21,59 @@ enum-told : tie.Need-enum-told
 enum-told c = search needs
 
 same-length : tie.Need-same-length
-same-length c = c .before .before .before .before .before .before .string-node .kept .1 .1 .1 .1 .0 ∙ c .before .before .before .before .before .before .before .before .before .before .before .before .before .before .before .before .before .before .before .before .gather .kept .1 .1 .1 .1 .0 ∙ c .before .before .before .before .before .before .before .before .before .before .before .before .before .before .before .before .before .before .before .before .before .before .before .before .before .before .before .before .before .before .before .before .before .peek .kept .1 .1 .1 .1 .0
+same-length c =
+    let at-string-node = c .before .before .before .before .before .before in
+    let at-gather = at-string-node .before .before .before .before .before .before .before .before .before .before .before .before .before .before in
+    let at-peek = at-gather .before .before .before .before .before .before .before .before .before .before .before .before .before in
+    at-string-node .string-node .kept .1 .1 .1 .1 .0 ∙ at-gather .gather .kept .1 .1 .1 .1 .0 ∙ at-peek .peek .kept .1 .1 .1 .1 .0
 
 same-length-2 : tie.Need-same-length-2
-same-length-2 c = c .before .before .before .before .before .before .string-node .kept .1 .1 .1 .1 .1 .0 ∙ c .before .before .before .before .before .before .before .before .before .before .before .before .before .before .before .before .before .before .before .before .gather .kept .1 .1 .1 .1 .1 .0 ∙ c .before .before .before .before .before .before .before .before .before .before .before .before .before .before .before .before .before .before .before .before .before .before .before .before .before .before .before .before .before .before .before .before .before .peek .kept .1 .1 .1 .1 .1 .0
+same-length-2 c =
+    let at-string-node = c .before .before .before .before .before .before in
+    let at-gather = at-string-node .before .before .before .before .before .before .before .before .before .before .before .before .before .before in
+    let at-peek = at-gather .before .before .before .before .before .before .before .before .before .before .before .before .before in
+    at-string-node .string-node .kept .1 .1 .1 .1 .1 .0 ∙ at-gather .gather .kept .1 .1 .1 .1 .1 .0 ∙ at-peek .peek .kept .1 .1 .1 .1 .1 .0
 
 same-length-3 : tie.Need-same-length-3
-same-length-3 c = c .before .before .before .before .before .before .string-node .kept .1 .1 .1 .1 .1 .1 .0 ∙ c .before .before .before .before .before .before .before .before .before .before .before .before .before .before .before .before .before .before .before .before .gather .kept .1 .1 .1 .1 .1 .1 .0 ∙ c .before .before .before .before .before .before .before .before .before .before .before .before .before .before .before .before .before .before .before .before .before .before .before .before .before .before .before .before .before .before .before .before .before .peek .kept .1 .1 .1 .1 .1 .1 .0
+same-length-3 c =
+    let at-string-node = c .before .before .before .before .before .before in
+    let at-gather = at-string-node .before .before .before .before .before .before .before .before .before .before .before .before .before .before in
+    let at-peek = at-gather .before .before .before .before .before .before .before .before .before .before .before .before .before in
+    at-string-node .string-node .kept .1 .1 .1 .1 .1 .1 .0 ∙ at-gather .gather .kept .1 .1 .1 .1 .1 .1 .0 ∙ at-peek .peek .kept .1 .1 .1 .1 .1 .1 .0
 
 returns : tie.Need-returns
-returns c = literal-some _ _ _ _ _ _ _ _ _ _ (c .before .before .before .before .before .before .before .before .before .before .before .before .before .before .before .before .before .before .before .before .before .before .before .before .before .before .before .before .before .before .before .before .before .peek .ensures) _ _ _ _ _ _ (c .before .before .before .before .before .before .before .before .before .before .before .before .before .before .before .before .before .before .before .before .gather .ensures) _ (c .before .before .before .before .before .before .before .before .before .before .before .last .given .1) _ _ _ (c .before .before .before .before .before .before .string-node .ensures)
+returns c =
+    let at-string-node = c .before .before .before .before .before .before in
+    let at-last = at-string-node .before .before .before .before .before in
+    let at-gather = at-last .before .before .before .before .before .before .before .before .before in
+    let at-peek = at-gather .before .before .before .before .before .before .before .before .before .before .before .before .before in
+    literal-some _ _ _ _ _ _ _ _ _ _ (at-peek .peek .ensures) _ _ _ _ _ _ (at-gather .gather .ensures) _ (at-last .last .given .1) _ _ _
+    (at-string-node .string-node .ensures)
 
 same-length-4 : tie.Need-same-length-4
-same-length-4 c = c .before .before .before .before .before .before .before .before .before .before .gather .kept .1 .1 .1 .1 .0 ∙ c .before .before .before .before .before .before .before .before .before .before .before .before .before .before .before .before .before .before .before .before .before .before .before .peek .kept .1 .1 .1 .1 .0
+same-length-4 c =
+    let at-gather = c .before .before .before .before .before .before .before .before .before .before in
+    let at-peek = at-gather .before .before .before .before .before .before .before .before .before .before .before .before .before in
+    at-gather .gather .kept .1 .1 .1 .1 .0 ∙ at-peek .peek .kept .1 .1 .1 .1 .0
 
 same-length-5 : tie.Need-same-length-5
-same-length-5 c = c .before .before .before .before .before .before .before .before .before .before .gather .kept .1 .1 .1 .1 .1 .0 ∙ c .before .before .before .before .before .before .before .before .before .before .before .before .before .before .before .before .before .before .before .before .before .before .before .peek .kept .1 .1 .1 .1 .1 .0
+same-length-5 c =
+    let at-gather = c .before .before .before .before .before .before .before .before .before .before in
+    let at-peek = at-gather .before .before .before .before .before .before .before .before .before .before .before .before .before in
+    at-gather .gather .kept .1 .1 .1 .1 .1 .0 ∙ at-peek .peek .kept .1 .1 .1 .1 .1 .0
 
 same-length-6 : tie.Need-same-length-6
-same-length-6 c = c .before .before .before .before .before .before .before .before .before .before .gather .kept .1 .1 .1 .1 .1 .1 .0 ∙ c .before .before .before .before .before .before .before .before .before .before .before .before .before .before .before .before .before .before .before .before .before .before .before .peek .kept .1 .1 .1 .1 .1 .1 .0
+same-length-6 c =
+    let at-gather = c .before .before .before .before .before .before .before .before .before .before in
+    let at-peek = at-gather .before .before .before .before .before .before .before .before .before .before .before .before .before in
+    at-gather .gather .kept .1 .1 .1 .1 .1 .1 .0 ∙ at-peek .peek .kept .1 .1 .1 .1 .1 .1 .0
 
 returns-2 : tie.Need-returns-2
-returns-2 c = literal-none _ _ _ _ _ _ _ _ _ _ (c .before .before .before .before .before .before .before .before .before .before .before .before .before .before .before .before .before .before .before .before .before .before .before .peek .ensures) _ _ _ _ _ _ (c .before .before .before .before .before .before .before .before .before .before .gather .ensures) (c .before .enum-told .given .1)
+returns-2 c =
+    let at-enum-told = c .before in
+    let at-gather = at-enum-told .before .before .before .before .before .before .before .before .before in
+    let at-peek = at-gather .before .before .before .before .before .before .before .before .before .before .before .before .before in
+    literal-none _ _ _ _ _ _ _ _ _ _ (at-peek .peek .ensures) _ _ _ _ _ _ (at-gather .gather .ensures) (at-enum-told .enum-told .given .1)
 
 pub try-parse-string-literal-spec : {M : Type 1} → statement M
 try-parse-string-literal-spec =
