@@ -7,6 +7,8 @@ PLANK_LIB="$(realpath -m "${PLANK_LIB:-$project/target/staticlib}")"
 CARGO_TARGET_DIR="$(realpath -m "${CARGO_TARGET_DIR:-$project/target/bindings}")"
 export PLANK_LIB CARGO_TARGET_DIR
 cd "$project"
+# What needs no prover: quotations, what must be believed, constants (PLANK_SRC names the folder of the Rust's sources).
+tools/check.sh ${PLANK_SRC:+"$PLANK_SRC"}
 if [ ! -e "$PLANK_LIB/libexports.a" ]; then
     echo "$PLANK_LIB/libexports.a is not there: \`rt staticlib exports\` writes it, PLANK_LIB names its folder" >&2
     exit 2

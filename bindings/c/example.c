@@ -51,11 +51,10 @@ static void print_reports(struct plank_words reports, uint64_t count) {
 static void print_constants(size_t text_len, const struct words *lent) {
     const uint32_t *nodes = lent->nodes.words;
     size_t len = lent->nodes.len;
-    uint64_t count = plank_file_def_count(nodes, len, 0);
-    uint32_t i;
-    for (i = 0; plank_is_number(count) && i < count; i++) {
-        uint64_t def = plank_file_def(nodes, len, 0, i);
-        uint64_t name = plank_is_number(def) ? plank_const_decl_name(nodes, len, (uint32_t)def) : PLANK_NONE;
+    uint64_t def;
+    for (def = plank_first_child(nodes, len, 0); plank_is_number(def);
+         def = plank_next_sibling(nodes, len, (uint32_t)def)) {
+        uint64_t name = plank_const_decl_name(nodes, len, (uint32_t)def);
         if (plank_is_number(name)) {
             struct plank_part part =
                 plank_spelling(text, text_len, lent->tokens.words, lent->tokens.len, (uint32_t)name);

@@ -4,6 +4,7 @@
  * Which names to use:
  *   plank_checked_lex, plank_checked_read      a text to words
  *   plank_const_decl_name, plank_expr, ..      what a node says, one function for each accessor ("Views" below)
+ *   plank_first_child, plank_next_sibling      the children of a node, one link at a time
  *   plank_node_at, plank_report_at, ..         words taken apart
  *   PLANK_TOKEN_.., PLANK_NODE_.., ..          the numbers
  * All of these may be given a null pointer with length 0, and answer a null pointer with a length above 0, slices
@@ -666,8 +667,8 @@ struct plank_node {
     uint32_t child;
 };
 
-/* 1, and the fields of node `n`; 0, and nothing written, where there is no such node. Fields are as they stand: whoever
- * follows links of words that may have been altered asks a view. */
+/* 1, and the fields of node `n`; 0, and nothing written, where there is no such node. Fields are as they stand: to
+ * follow links of words that may have been altered, plank_first_child and plank_next_sibling check them. */
 static inline int plank_node_at(const uint32_t *nodes, size_t nodes_len, uint32_t n, struct plank_node *node) {
     const uint32_t *words;
     if (nodes == NULL || n >= nodes_len / PLANK_NODE_WIDTH) {
@@ -681,6 +682,52 @@ static inline int plank_node_at(const uint32_t *nodes, size_t nodes_len, uint32_
     node->next = words[3];
     node->child = words[4];
     return 1;
+}
+
+/* ---- Walks. A view that tells a list's i-th goes there from the first: a loop over i takes time that grows with the
+ * square of the list (over a second for 32,760 statements). A loop over links takes time that grows with the list:
+ *
+ *   for (child = plank_first_child(nodes, len, n); plank_is_number(child);
+ *        child = plank_next_sibling(nodes, len, (uint32_t)child)) { .. }
+ *
+ * It goes through all children of `n`, of which plank_child tells the i-th; docs/FORMAT.md ("Children") says what they
+ * are. The statements of a block are the children of its first child. Behind it `child` is PLANK_NONE, or the refusal
+ * or misuse that ended it. It ends on any words, as a next sibling that isn't above its node is refused. Going down from
+ * child to child need not end on altered words, as a first child may be any node: bound its depth. */
+
+/* 0, and the fields of node `n`, or refusal 8, as a view that looks at it: there is no such node, its kind is above
+ * PLANK_NODE_ERROR, or its next sibling is neither 0 nor above it. */
+static inline uint64_t plank_look(const uint32_t *nodes, size_t nodes_len, uint32_t n, struct plank_node *node) {
+    uint64_t misuse = plank_check_slice(nodes, nodes_len, sizeof(uint32_t), PLANK_SLICE_NODES);
+    if (misuse != 0) {
+        return misuse;
+    }
+    if (!plank_node_at(nodes, nodes_len, n, node) || node->kind > PLANK_NODE_ERROR ||
+        (node->next != 0 && node->next <= n)) {
+        return (uint64_t)PLANK_REFUSAL_ALTERED_NODES << 32 | n;
+    }
+    return 0;
+}
+
+/* Where a link leads: the node's number, which can be looked at, PLANK_NONE, or refusal 8. */
+static inline uint64_t plank_link(const uint32_t *nodes, size_t nodes_len, uint32_t to) {
+    struct plank_node node;
+    uint64_t refusal = to == 0 ? PLANK_NONE : plank_look(nodes, nodes_len, to, &node);
+    return refusal != 0 ? refusal : to;
+}
+
+/* The first child of node `n`, if it has one: what plank_child(nodes, nodes_len, n, 0) answers. */
+static inline uint64_t plank_first_child(const uint32_t *nodes, size_t nodes_len, uint32_t n) {
+    struct plank_node node;
+    uint64_t refusal = plank_look(nodes, nodes_len, n, &node);
+    return refusal != 0 ? refusal : plank_link(nodes, nodes_len, node.child);
+}
+
+/* The next sibling of node `n`, if it has one. */
+static inline uint64_t plank_next_sibling(const uint32_t *nodes, size_t nodes_len, uint32_t n) {
+    struct plank_node node;
+    uint64_t refusal = plank_look(nodes, nodes_len, n, &node);
+    return refusal != 0 ? refusal : plank_link(nodes, nodes_len, node.next);
 }
 
 struct plank_report {
@@ -741,7 +788,7 @@ static inline uint8_t plank_value_byte(struct plank_value value, uint32_t i) {
 
 /* ---- Views, checked: plank_view, plank_view_span and plank_view_count, and after them one function for each
  * accessor. All tell a number, PLANK_NONE, refusal 8 or a misuse. What a number is, a node, a name, a flag or an
- * operator, docs/FORMAT.md and the accessor's namesake in the Rust parser say. */
+ * operator, docs/FORMAT.md says ("What views tell"). Those that tell a list's i-th are slow in loops: see "Walks". */
 
 static inline uint64_t plank_checked_view(uint32_t which, const uint32_t *nodes, size_t nodes_len, uint32_t n,
                                           uint32_t i) {
@@ -822,6 +869,8 @@ PLANK_NUMBER_VIEW(import_path, IMPORT_PATH)
 PLANK_NUMBER_VIEW(import_public, IMPORT_PUBLIC)
 PLANK_NUMBER_VIEW(import_glob, IMPORT_GLOB)
 PLANK_NUMBER_VIEW(import_as_decl_name, IMPORT_AS_DECL_NAME)
+/* These two, import_path_segment and import_group_path_segment, tell a node, where collect_path_segments of the Rust
+ * parser gives names: plank_ident of the node tells the name. */
 PLANK_ITEM_VIEW(import_path_segment, IMPORT_PATH_SEGMENT)
 PLANK_COUNT_VIEW(import_path_segment_count, IMPORT_PATH_SEGMENT_COUNT)
 PLANK_SPAN_VIEW(import_first_path_segment_span, IMPORT_FIRST_PATH_SEGMENT_SPAN)

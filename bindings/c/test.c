@@ -112,6 +112,88 @@ static void test_altered_words(void) {
     CHECK(plank_refusal(answer) == PLANK_REFUSAL_ALTERED_NODES && plank_place(answer) == UINT32_MAX);
 }
 
+/* A walk over links meets what plank_child tells by number: the same children, and at the end none, or the same
+ * refusal. */
+static void check_walk(uint32_t n) {
+    uint64_t child = plank_first_child(nodes, WORDS, n);
+    uint32_t i = 0;
+    while (plank_is_number(child)) {
+        CHECK(child == plank_child(nodes, WORDS, n, i));
+        child = plank_next_sibling(nodes, WORDS, (uint32_t)child);
+        i++;
+    }
+    CHECK(child == plank_child(nodes, WORDS, n, i));
+    CHECK(!plank_is_none(child) || plank_child_count(nodes, WORDS, n) == i);
+}
+
+/* Every node of the script; then every link of it altered, one at a time. */
+static void test_walks(void) {
+    static const uint32_t altered[] = {0, 1, 2, 3, 7, 799, 800, UINT32_MAX};
+    struct plank_counts counts;
+    uint32_t n, m;
+    size_t i, link;
+    CHECK(read_script(&counts) == 0 && counts.nodes > 9 && WORDS / PLANK_NODE_WIDTH == 800);
+    for (n = 0; n < counts.nodes; n++) {
+        check_walk(n);
+    }
+    for (m = 0; m < counts.nodes; m++) {
+        for (link = 3; link < PLANK_NODE_WIDTH; link++) {
+            uint32_t *word = &nodes[PLANK_NODE_WIDTH * m + link];
+            uint32_t kept = *word;
+            for (i = 0; i < sizeof altered / sizeof *altered; i++) {
+                *word = altered[i];
+                for (n = 0; n <= counts.nodes; n++) {
+                    check_walk(n);
+                }
+            }
+            *word = kept;
+        }
+    }
+    nodes[PLANK_NODE_WIDTH] = UINT32_C(50) << PLANK_NODE_LOW;
+    check_walk(0);
+    check_walk(1);
+    check_walk(UINT32_MAX);
+}
+
+/* As many statements as a text may have: a walk over links goes through them at once. */
+static void test_long_walk(void) {
+    enum { STATEMENTS = 32760, BYTES = 7 + 2 * STATEMENTS };
+    static uint8_t text[BYTES];
+    static uint32_t all_tokens[BYTES + 1], all_nodes[PLANK_NODE_WIDTH * (3 * BYTES + 1)];
+    size_t i, len = sizeof all_nodes / sizeof *all_nodes;
+    uint64_t list, child;
+    memcpy(text, "init {", 6);
+    for (i = 0; i < STATEMENTS; i++) {
+        memcpy(text + 6 + 2 * i, "a;", 2);
+    }
+    text[BYTES - 1] = '}';
+    CHECK(plank_checked_read(text, BYTES, words(all_tokens, BYTES + 1), words(all_nodes, len), words(NULL, 0),
+                             words(reports, WORDS), NULL) == 0);
+    list = plank_first_child(all_nodes, len, (uint32_t)plank_first_child(all_nodes, len, 0));
+    CHECK(plank_kind(all_nodes, len, (uint32_t)list) == PLANK_NODE_STATEMENTS_LIST);
+    i = 0;
+    for (child = plank_first_child(all_nodes, len, (uint32_t)list); plank_is_number(child);
+         child = plank_next_sibling(all_nodes, len, (uint32_t)child)) {
+        i++;
+    }
+    CHECK(plank_is_none(child) && i == STATEMENTS);
+}
+
+/* A path's segments are nodes; a name is the node's. */
+static void test_segments(void) {
+    static const char text[] = "use a::b::{c, d};";
+    size_t len = sizeof text - 1;
+    uint64_t segment;
+    struct plank_part part;
+    CHECK(plank_checked_read((const uint8_t *)text, len, words(tokens, WORDS), words(nodes, WORDS),
+                             words(values, WORDS), words(reports, WORDS), NULL) == 0);
+    segment = plank_import_group_path_segment(nodes, WORDS, 1, 1);
+    CHECK(plank_kind(nodes, WORDS, (uint32_t)segment) == PLANK_NODE_IDENTIFIER);
+    part = plank_spelling((const uint8_t *)text, len, tokens, WORDS,
+                          (size_t)plank_ident(nodes, WORDS, (uint32_t)segment));
+    CHECK(part.len == 1 && part.start[0] == 'b');
+}
+
 /* A null pointer of length 0 is an empty slice. */
 static void test_empty(void) {
     struct plank_words none = words(NULL, 0);
@@ -127,6 +209,8 @@ static void test_empty(void) {
     CHECK(plank_refusal(answer) == PLANK_REFUSAL_TOKENS_DONT_FIT && plank_place(answer) == 1);
     CHECK(plank_refusal(plank_kind(NULL, 0, 0)) == PLANK_REFUSAL_ALTERED_NODES);
     CHECK(plank_refusal(plank_child_count(NULL, 0, 0)) == PLANK_REFUSAL_ALTERED_NODES);
+    CHECK(plank_refusal(plank_first_child(NULL, 0, 0)) == PLANK_REFUSAL_ALTERED_NODES);
+    CHECK(plank_refusal(plank_next_sibling(NULL, 0, 0)) == PLANK_REFUSAL_ALTERED_NODES);
     CHECK(!plank_node_at(NULL, 0, 0, &node) && !plank_report_at(NULL, 0, 0, &report));
     CHECK(!plank_value_at(NULL, 0, 0, &value) && plank_spelling(NULL, 0, NULL, 0, 0).len == 0);
 }
@@ -146,6 +230,8 @@ static void test_misuse(void) {
     CHECK(plank_checked_lex(script, LEN, words(tokens, SIZE_MAX)) ==
           plank_misuse(PLANK_MISUSE_LENGTH, PLANK_SLICE_TOKENS));
     CHECK(plank_kind(NULL, 5, 0) == plank_misuse(PLANK_MISUSE_NULL, PLANK_SLICE_NODES));
+    CHECK(plank_first_child(NULL, 5, 0) == plank_misuse(PLANK_MISUSE_NULL, PLANK_SLICE_NODES));
+    CHECK(plank_next_sibling(NULL, 5, 0) == plank_misuse(PLANK_MISUSE_NULL, PLANK_SLICE_NODES));
     CHECK(plank_span(NULL, 5, 0, &span) == plank_misuse(PLANK_MISUSE_NULL, PLANK_SLICE_NODES));
     CHECK(plank_span(nodes, WORDS, 0, NULL) == plank_misuse(PLANK_MISUSE_NULL, PLANK_SLICE_SPAN));
 }
@@ -155,6 +241,9 @@ int main(void) {
     test_views();
     test_refusals();
     test_altered_words();
+    test_walks();
+    test_long_walk();
+    test_segments();
     test_empty();
     test_misuse();
     return 0;

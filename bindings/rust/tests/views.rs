@@ -257,3 +257,16 @@ fn errors_have_spans() {
     ];
     assert_eq!(seen, wanted.map(|(text, shape)| (text, shape.to_string())));
 }
+
+/// As many statements as a text may have: iterators follow links, so that all are gone through at once.
+#[test]
+fn long_lists_are_gone_through() {
+    let statements = 32_760;
+    let tree = plank::parse(&format!("init {{{}}}", "a;".repeat(statements))).unwrap();
+    let Some(TopLevelDef::Init(init)) = tree.as_file().iter_defs().next() else {
+        panic!("an init block");
+    };
+    let names =
+        init.body().statements().filter(|it| matches!(it, Statement::Expr(Expr::Ident { .. })));
+    assert_eq!(names.count(), statements);
+}

@@ -119,9 +119,11 @@ fn the_header_has_the_same_numbers() {
     assert!(header.contains("#define PLANK_NONE (UINT64_C(1) << 63)"));
 }
 
-/// Accessors of lists are given the number of an item in the sources.
+/// Accessors of lists are given the number of an item in the sources; those of any node go through `NodeView` and end in `_at`.
 fn is_item(sources: &str, name: &str) -> bool {
-    sources.contains(&format!("number::{name} => {}(nodes, n, i)", name.to_lowercase()))
+    ["", "_at"].iter().any(|end| {
+        sources.contains(&format!("number::{name} => {}{end}(nodes, n, i)", name.to_lowercase()))
+    })
 }
 
 #[test]
