@@ -18,7 +18,7 @@ use Rattle.definition.specs.Strings.{emitEvents}
 use Rattle.reading.specs.declared.Reading.{Reading}
 use Rattle.reading.specs.Source.{Right}
 use Rattle.reading.specs.Does.{Does, view, run, from}
-use Rattle.values.specs.Decodes.{unrefused}
+use Rattle.decoder.specs.Decodes.{unrefused}
 
 -- What a program comes to, with other values, and with the next one at a place.
 abbrev over : {A : Type 0} → ℕ → List ℕ → Out A → Out A

@@ -22,8 +22,8 @@ use Rattle.cst.specs.Cst.{maybe}
 use Rattle.cst.specs.Laws.{position-is}
 use Rattle.values.specs.declared.Count.{Count}
 use Rattle.values.specs.declared.Count.the-variants.{Words, DontFit}
-use Rattle.values.specs.Decodes.{unrefused}
-use Rattle.values.specs.Fours.{Held, held-first}
+use Rattle.decoder.specs.Decodes.{unrefused}
+use Rattle.decoder.specs.Fours.{Held, held-first}
 use Rattle.operands.specs.Turns.{buf, Turned, some-none}
 
 -- Tokens gathered so far, where k turns are left.

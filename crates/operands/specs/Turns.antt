@@ -19,8 +19,8 @@ use Rattle.reading.specs.Source.{Right}
 use Rattle.reading.specs.Does.{Does, then, gives, when-true, when-false}
 use Rattle.cst.specs.Laws.{position-is}
 use Rattle.values.specs.declared.Count.{Count}
-use Rattle.values.specs.Decodes.{Decodes, decodes-none, unrefused}
-use Rattle.values.specs.Fours.{Held}
+use Rattle.decoder.specs.Decodes.{Decodes, decodes-none, unrefused}
+use Rattle.decoder.specs.Fours.{Held}
 use Rattle.operands.specs.Number.{spelling-is}
 use Rattle.operands.specs.Alone.{peek-alone, pass-alone, events-alone, does-same, does-over}
 

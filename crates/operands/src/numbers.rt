@@ -4,12 +4,12 @@ ghost use Rattle.definition.specs.Nodes.{tryParseNumLiteral};
 ghost use Rattle.definition.specs.Expressions.{numLiteral};
 ghost use Rattle.reading.specs.Does.{Does};
 ghost use Rattle.cst.specs.Cst.{maybe};
-ghost use Rattle.values.specs.Numbers.{radixOf};
+ghost use Rattle.numerals.specs.Numbers.{radixOf};
 ghost use Rattle.operands.specs.Number.{offset, numberOf};
+use numerals::Base;
 use reading::Found;
 use reading::Maybe;
 use reading::Reading;
-use values::Base;
 use words::token;
 
 // The offset of a value, where there is one.
@@ -42,7 +42,7 @@ fn number_of(
     let cursor = state.cursor;
     let token = cursor.at;
     let past = stream::pass(d, s, text, tokens, nodes, values, reports);
-    let made = values::number::number(
+    let made = numerals::number(
         d,
         past,
         text,

@@ -6,12 +6,11 @@ ghost use Rattle.reading.specs.Does.{Does};
 ghost use Rattle.cst.specs.Cst.{maybe};
 ghost use Rattle.operands.specs.Turns.{Passed, Turned};
 ghost use Rattle.operands.specs.Gathers.{Gathers, StringMade};
+use decoder::Decoded;
 use reading::Found;
 use reading::Maybe;
 use reading::Reading;
 use values::Count;
-use values::strings;
-use values::strings::Decoded;
 use words::token;
 
 // String tokens so far: what they decode to, and the token number past the last one.
@@ -65,11 +64,11 @@ fn string_turn(
     let n = cursor.at;
     let here = Decoded { at, count };
     if kind == token::LOOSE_STRING_LITERAL {
-        let more = strings::decode_string(d, here, text, tokens, nodes, values, reports, place, n);
+        let more = decoder::decode_string(d, here, text, tokens, nodes, values, reports, place, n);
         return pass_token(d, more, text, tokens, nodes, values, reports);
     }
     if kind == token::LOOSE_HEX_STRING_LITERAL {
-        let more = strings::decode_hex(d, here, text, tokens, nodes, values, reports, place, n);
+        let more = decoder::decode_hex(d, here, text, tokens, nodes, values, reports, place, n);
         return pass_token(d, more, text, tokens, nodes, values, reports);
     }
     if kind == token::MULTILINE_STRING_ERROR {
@@ -139,7 +138,7 @@ fn string_node(
         let it = Maybe::None;
         return Found { it, at: reading };
     }
-    let made = strings::string_value(d, reading, text, tokens, nodes, values, reports, count);
+    let made = decoder::string_value(d, reading, text, tokens, nodes, values, reports, count);
     let at = made.at;
     let kind = words::node::STRING_LITERAL;
     let offset = crate::payload(made.it);

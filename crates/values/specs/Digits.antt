@@ -2,12 +2,23 @@
 use mathlib.Core.Path.{_≡_, refl}
 use mathlib.Core.Logic.{_⊎_, inl, inr, ⊎-elim}
 use mathlib.Core.Bool.{Bool, false, true, _&&_, and-false}
-use mathlib.Core.Option.{none, some}
+use mathlib.Core.Option.{Option, none, some}
 use Prim.Native.Nat.{ℕ, _+_, _-_, _%_, _≤_, _<_}
 use native.Mathlib.Omega.{arith}
 use borrow.Author.Tests.{le-leb, lt-leb, ltb-true, ltb-false}
 use lib.Dec.{leb, ltb}
 use Rattle.literals.specs.Numbers.{nibble}
+use Rattle.reading.specs.declared.Maybe.{Maybe}
+use Rattle.reading.specs.declared.Maybe.the-variants.{Some, None}
+
+abbrev pub option : Maybe → Option ℕ
+option (Some n) = some n
+option None = none
+
+-- A number that is there is below a bound.
+abbrev pub Under : ℕ → Maybe → Type 0
+Under bound (Some n) = n < bound
+Under bound None = Unit {0}
 
 module _ (c : ℕ) where
   below : (lo hi : ℕ) → c < lo → (leb lo c && leb c hi) ≡ false

@@ -1,5 +1,5 @@
 -- Values stored: the words of one from an offset on, if there is room, and what `value` then does.
-use mathlib.Core.Path.{_≡_, sym, _∙_, ap}
+use mathlib.Core.Path.{_≡_, sym, _∙_}
 use mathlib.Core.List.{List, [], _∷_, _++_, append-assoc, append-nil}
 use Prim.Native.Nat.{ℕ, _+_, _-_, _%_, _≤_, _<_}
 use native.Mathlib.Omega.{arith}
@@ -9,19 +9,21 @@ use borrow.Author.Tests.{le-leb, lt-leb}
 use lib.ListN.{length, getD, take, drop, set, length-drop, drop-of-length-le}
 use lib.Seq.{sets, sets-eq, take-all, take-suc, append-snoc, set-at, length-take-le, drop-drop}
 use Rattle.words.specs.Refusal
-use Rattle.words.specs.Value
 use Rattle.words.specs.Words.{pack, valueHead}
-use Rattle.literals.specs.Numbers.{limbs, numberValue}
 use Rattle.definition.specs.declared.State.{State}
 use Rattle.definition.specs.Prog.{value, Memory, memory, done, refused, eval, valued, withValues}
 use Rattle.reading.specs.declared.Reading.{Reading}
 use Rattle.reading.specs.Does.{Does, refusedAt, goes, halts}
 use Rattle.values.specs.declared.Count.{Count}
 use Rattle.values.specs.declared.Count.the-variants.{Words, DontFit}
-use Rattle.values.specs.Numbers.{Put}
 
 abbrev pub pastWords : Reading → ℕ → Reading
 pastWords s end = record { state = withValues end (s .state); refusal = s .refusal; place = s .place }
+
+-- Words put in front of a slice, if there is room for them.
+abbrev pub Put : List ℕ → List ℕ → Count → List ℕ → Type 0
+Put ws room (Words n) room′ = (n ≡ length ws) × (n ≤ length room) × (room′ ≡ ws ++ drop n room)
+Put ws room DontFit room′ = length room < length ws
 
 -- Words stored from `at` on, and where they end, if there is room for them.
 abbrev pub Kept : List ℕ → List ℕ → ℕ → Count → List ℕ → Type 0
@@ -52,7 +54,7 @@ module _ (head : ℕ) (ws vs : List ℕ) (at : ℕ) where
         omega (arith, length-drop (at + 1) vs)
 
     module _ (n : ℕ) (e : r ≡ Words n) where
-      fit : Put ws (drop (at + 1) vs) (Words n) out
+      pub fit : Put ws (drop (at + 1) vs) (Words n) out
       fit = rw (e, part-whole (at + 1) vs) at p
 
       pub kept-end : at + 1 + n ≤ length vs
@@ -66,24 +68,6 @@ module _ (head : ℕ) (ws vs : List ℕ) (at : ℕ) where
           let front : take (at + 1) vs ++ out ≡ take at vs ++ getD vs at 0 ∷ out = rw (add-one, take-suc vs at 0 h, append-snoc) in
           let stored : sets vs at (head ∷ ws) ≡ take at vs ++ (head ∷ (ws ++ rest)) = sets-eq (head ∷ ws) vs at (omega (arith, kept-end)) ∙ append-assoc (take at vs) (head ∷ ws) rest in
           (sym k, kept-end, rw (part-rest (at + 1) vs, append-nil, front, stored, ← behind) (set-at (take at vs) (getD vs at 0) out head at (length-take-le at vs (omega arith))))
-
--- The value of a number, or that it doesn't fit.
-module _ (n : ℕ) (vs : List ℕ) (at : ℕ) where
-  pub number-none : length vs ≤ at → length vs < at + length (numberValue n)
-  unfolding numberValue
-  number-none = kept-none (valueHead Value.Number (length (limbs n))) (limbs n) vs at
-
-  module _ (h : at < length vs) (r : Count) (out : List ℕ) (p : Put (limbs n) (take (length vs - (at + 1)) (drop (at + 1) vs)) r out) where
-    pub number-full : r ≡ DontFit → length vs < at + length (numberValue n)
-    unfolding numberValue
-    number-full = kept-full (valueHead Value.Number (length (limbs n))) (limbs n) vs at h r out p
-
-    pub number-fits : (m : ℕ) → r ≡ Words m → (head : ℕ) → head ≡ valueHead Value.Number m
-        → Kept (numberValue n) vs at (Words (at + 1 + m)) (set (take (at + 1) vs ++ (out ++ drop (length vs - (at + 1)) (drop (at + 1) vs))) at head)
-    unfolding numberValue
-    number-fits m e head f =
-        let g : head ≡ valueHead Value.Number (length (limbs n)) = f ∙ ap (valueHead Value.Number) (fit 0 (limbs n) vs at h r out p m e .0) in
-        rw g (kept-fits (valueHead Value.Number (length (limbs n))) (limbs n) vs at h r out p m e)
 
 valued-full : (ws : List ℕ) (s : State) (m : Memory) → length (m .values) < s .values + length ws → valued ws s m ≡ refused Refusal.ValuesDontFit (s .cursor .at)
 unfolding valued

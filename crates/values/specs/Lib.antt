@@ -1,17 +1,2 @@
-pub mod Limbs
-pub mod Numbers
 pub mod Digits
-pub mod Times
-pub mod Chunks
-pub mod Put
-pub mod Hexadecimal
 pub mod Kept
-pub mod Number
-pub mod Chars
-pub mod Pieces
-pub mod Hex
-pub mod Fours
-pub mod Decodes
-pub mod Plain
-pub mod Inside
-pub mod StringValue

@@ -2,8 +2,7 @@
 ghost use mathlib.Core.Path.{_≡_};
 ghost use Rattle.literals.specs.Numbers.{nibble};
 ghost use Prim.Native.Nat.{_≤_};
-ghost use Rattle.values.specs.Numbers.{option, Under};
-ghost use Rattle.values.specs.Digits.{Worth};
+ghost use Rattle.values.specs.Digits.{option, Under, Worth};
 use reading::Maybe;
 
 // What a digit counts, and a letter from A or a on, for a character from 48 on. Past F and f that is more than 15.
@@ -18,7 +17,7 @@ fn worth(c: u32) -> u32
 }
 
 // `parse_nibble`: what a character counts as a digit. Digits and letters go one way, since which comes next can't be foreseen.
-pub(crate) fn nibble(c: u32) -> Maybe
+pub fn nibble(c: u32) -> Maybe
     ensures { λ r. ⌜ (option r ≡ nibble c) × Under 16 r ⌝ }
 {
     if c < 48 {

@@ -1,23 +1,12 @@
-// Literal values: what number tokens and string tokens stand for.
+// Literal values: what numbers and strings share.
 ghost use mathlib.Core.Path.{_≡_};
 ghost use Rattle.words.specs.Words.{valueHead};
 ghost use Rattle.values.specs.Kept.{pastWords};
 
-mod bytes;
-mod digit;
-mod hexadecimal;
-pub mod number;
-pub mod strings;
+pub mod digit;
 
 use definition::State;
 use reading::Reading;
-
-// The radix of a number token.
-pub enum Base {
-    Binary,
-    Decimal,
-    Hexadecimal,
-}
 
 // How many words were stored, or that there is no room for them.
 pub enum Count {
@@ -35,14 +24,14 @@ pub struct Stored {
 const COUNTS: usize = 1073741824;
 
 // The first word of a value. What doesn't fit it is cut off.
-fn head(tag: u32, count: usize) -> u32
+pub fn head(tag: u32, count: usize) -> u32
     ensures { λ r. ⌜ r ≡ valueHead tag count ⌝ }
 {
     words::value_head(tag, (count % COUNTS) as u32)
 }
 
 // A reading whose next value goes at `end`.
-fn past(s: Reading, end: usize) -> Reading
+pub fn past(s: Reading, end: usize) -> Reading
     ensures { λ r. ⌜ r ≡ pastWords s end ⌝ }
 {
     let state = s.state;

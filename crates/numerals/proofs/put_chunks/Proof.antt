@@ -1,0 +1,84 @@
+-- `put_chunks` meets its contract: the limbs of the number so far, and the digits that are left, make the whole.
+use mathlib.Core.Path.{_∙_}
+use Prim.Native.Nat.{_-_}
+use lib.ListN.{length}
+use Rattle.numerals.specs.Put.{Digits, digits-first, digits-fit, digits-more, digits-full, digits-last, room-length}
+use borrow.Author.Needs.{needs}
+use native.Mathlib.Omega.{arith}
+use Rattle.numerals.proofs.put_chunks.Statement.{statement}
+use Rattle.numerals.proofs.put_chunks.Tie as tie
+
+abbrev Inv-loop : tie.InvT-loop
+Inv-loop source prefix radix room₀ n₀ i₀ room n i = Digits radix source prefix room₀ room n i
+
+abbrev μ-loop : tie.MeasureT-loop
+μ-loop source prefix radix room₀ n₀ i₀ room n i = length source - i
+
+loop-holds : tie.Need-loop-holds Inv-loop μ-loop
+loop-holds c = digits-first _ _ _ _
+
+chunk-at-requires : tie.Need-chunk-at-requires Inv-loop μ-loop
+chunk-at-requires c κs = search needs
+
+push-requires : tie.Need-push-requires Inv-loop μ-loop
+push-requires c κs = digits-fit _ _ _ _ _ _ _ (c .before .before .before .loop .inv)
+
+enum-known-m : tie.Need-enum-known-m Inv-loop μ-loop
+enum-known-m c = search needs
+
+loop-less : tie.Need-loop-less Inv-loop μ-loop
+loop-less c =
+    let at-chunk-at = c .before .before .before .before .before .before .before in
+    omega (arith, at-chunk-at .chunk-at .ensures .on)
+
+loop-again : tie.Need-loop-again Inv-loop μ-loop
+loop-again c =
+    let at-m = c .before in
+    let at-push = at-m .before .before .before .before in
+    let at-chunk-at = at-push .before .before in
+    let at-loop = at-chunk-at .before .before in
+    let at-pre = at-loop .before .before .before in
+    digits-more _ _ _ _ _ _ _ (at-loop .loop .inv) (omega (arith, at-pre .pre .0)) _ _ _ (at-chunk-at .chunk-at .ensures) _ _
+    (at-push .push .ensures) _ (at-m .m .given .1)
+
+enum-told : tie.Need-enum-told Inv-loop μ-loop
+enum-told c = search needs
+
+same-length : tie.Need-same-length Inv-loop μ-loop
+same-length c =
+    let at-room = c .before .before .before in
+    let at-loop = at-room .before .before .before .before .before in
+    at-room .room .given ∙ room-length _ _ _ _ _ _ _ (at-loop .loop .inv)
+
+returns : tie.Need-returns Inv-loop μ-loop
+returns c =
+    let at-push = c .before .before .before .before in
+    let at-chunk-at = at-push .before .before in
+    let at-loop = at-chunk-at .before .before in
+    let at-pre = at-loop .before .before .before in
+    digits-full _ _ _ _ _ _ _ (at-loop .loop .inv) (omega (arith, at-pre .pre .0)) _ _ _ (at-chunk-at .chunk-at .ensures) _ _
+    (at-push .push .ensures) (c .enum-told .given .1)
+
+same-length-2 : tie.Need-same-length-2 Inv-loop μ-loop
+same-length-2 c = room-length _ _ _ _ _ _ _ (c .before .loop .inv)
+
+returns-2 : tie.Need-returns-2 Inv-loop μ-loop
+returns-2 c = digits-last _ _ _ _ _ _ _ (c .before .loop .inv) (c .loop-test .left)
+
+pub put-chunks-spec : {M : Type 1} → statement M
+put-chunks-spec =
+    tie.close
+    (tie.spec
+    Inv-loop
+    μ-loop
+    loop-holds
+    chunk-at-requires
+    push-requires
+    enum-known-m
+    loop-less
+    loop-again
+    enum-told
+    same-length
+    returns
+    same-length-2
+    returns-2)

@@ -1,0 +1,7 @@
+pub mod Limbs
+pub mod Numbers
+pub mod Times
+pub mod Chunks
+pub mod Put
+pub mod Hexadecimal
+pub mod Number
