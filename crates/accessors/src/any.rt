@@ -1,4 +1,4 @@
-// Accessors by number: any node, and which node an expression is.
+// Accessors by number: any node, which node an expression is, and where a node stands.
 ghost use mathlib.Core.Path.{_≡_};
 ghost use Rattle.looking.specs.View.{none, answer, spans as spanned, counts as counted};
 ghost use Rattle.accessors.specs.Rows.{pick};
@@ -13,7 +13,10 @@ use node_view::child_at;
 use node_view::child_count_at;
 use node_view::ident_at;
 use node_view::kind_at;
+use node_view::parent_at;
 use node_view::span_at;
+use walking::enclosing_declaration;
+use walking::node_at_token;
 
 // The accessor with this number, of a node.
 pub(crate) fn view(which: u32, nodes: &[u32], n: u32, i: u32) -> View
@@ -25,6 +28,9 @@ pub(crate) fn view(which: u32, nodes: &[u32], n: u32, i: u32) -> View
         number::IDENT => ident_at(nodes, n),
         number::EXPR => expr(nodes, n),
         number::STRUCT_BODY => struct_body(nodes, n),
+        number::PARENT => parent_at(nodes, n),
+        number::ENCLOSING_DECLARATION => enclosing_declaration(nodes, n),
+        number::NODE_AT_TOKEN => node_at_token(nodes, n, i),
         _ => View::None,
     }
 }

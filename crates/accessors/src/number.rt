@@ -1,6 +1,6 @@
 // The numbers of the accessors: 32 for each group.
 
-// Any node, and which node an expression is.
+// Any node, which node an expression is, and where a node stands.
 pub const KIND: u32 = 0;
 
 pub const SPAN: u32 = 1;
@@ -14,6 +14,12 @@ pub const IDENT: u32 = 4;
 pub const EXPR: u32 = 5;
 
 pub const STRUCT_BODY: u32 = 6;
+
+pub const PARENT: u32 = 7;
+
+pub const ENCLOSING_DECLARATION: u32 = 8;
+
+pub const NODE_AT_TOKEN: u32 = 9;
 
 // Files, constants and imports.
 pub const FILE: u32 = 32;

@@ -31,7 +31,7 @@ pub(crate) struct Try {
 }
 
 // The most bytes of data that are read.
-pub(crate) const LONGEST_DATA: usize = 196608;
+pub(crate) const LONGEST_DATA: usize = 229376;
 
 // The bytes of a try: five numbers.
 pub(crate) const TRY_BYTES: usize = 20;
@@ -130,9 +130,12 @@ pub(crate) fn bytes_between(start: usize, end: usize) -> usize {
     end - start
 }
 
+// A node's six words, as recorded.
+const NODE_BYTES: usize = 24;
+
 // Whether so many nodes, value words and reports are recorded.
 pub(crate) fn are_counts(tree: Tree, n: usize, v: usize, r: usize) -> bool {
-    if n != bytes_between(tree.nodes, tree.values) / 20 {
+    if n != bytes_between(tree.nodes, tree.values) / NODE_BYTES {
         return false;
     }
     if v != bytes_between(tree.values, tree.reports) / 4 {

@@ -219,7 +219,7 @@ pub(crate) fn replay_data() {
         return;
     }
     // One byte more than is taken shows that there is more.
-    let mut file = [0u8; 196609];
+    let mut file = [0u8; 229377];
     let n = io::read_full(fd, &mut file);
     libc::close(fd);
     if LONGEST_DATA < n {

@@ -3,7 +3,7 @@ use mathlib.Core.Path.{_≡_, refl, sym, _∙_, ap}
 use mathlib.Core.Logic.{_≢_}
 use mathlib.Core.Bool.{Bool, true, false, _&&_}
 use mathlib.Core.List.{List, [], _∷_, _++_}
-use Prim.Native.Nat.{ℕ, zero, suc, _+_, _*_, _≤_, _<_}
+use Prim.Native.Nat.{ℕ, zero, suc, _+_, _*_, _≤_, _<_, pred}
 use native.Mathlib.Omega.{arith}
 use native.Mathlib.Nat.{le-refl, le-of-eq}
 use native.Mathlib.Decide.{ℕ-discrete}
@@ -11,7 +11,7 @@ use borrow.Author.Tests.{ltb-true, eqb-true}
 use lib.ListN.{length, getD, set, length-set, length-append, List·getD-append}
 use lib.Seq.{sets, length-sets, getD-set-same, getD-set-other, getD-append-seam, set-out}
 use Rattle.words.specs.Words.{nodeWidth, nodeWords}
-use Rattle.definition.specs.Prog.{nextWord, childWord}
+use Rattle.definition.specs.Prog.{nextWord, childWord, parentWord}
 use Rattle.definition.specs.Abstract.{Node, noNode, nodeAt, word, withWord, withKid, withOwn, newNode, written, adopted, lastKid, mayAdopt}
 
 -- ---- lists
@@ -73,6 +73,10 @@ place i j = nodeWidth * i + j
 abbrev pub next : List ℕ → ℕ → ℕ
 next w i = getD w (place i nextWord) 0
 
+-- The parent that the words of a node tell.
+abbrev pub parentOf : List ℕ → ℕ → ℕ
+parentOf w i = getD w (place i parentWord) 0
+
 abbrev pub firstKid : List ℕ → ℕ
 firstKid [] = 0
 firstKid (x ∷ []) = x
@@ -88,13 +92,15 @@ pub record Plain (w : List ℕ) (st : List Node) : Type 0 where
   pub room : nodeWidth * length st ≤ length w
   pub words : (i j : ℕ) → i < length st → j < 3 → getD w (place i j) 0 ≡ word j (nodeAt st i)
 
--- And the links.
+-- And the links, with the parent of each node.
 pub record Encodes (w : List ℕ) (st : List Node) : Type 0 where
   pub firsts : (i : ℕ) → i < length st → getD w (place i childWord) 0 ≡ firstKid (nodeAt st i .kids)
   pub chains : (i : ℕ) → i < length st → Kids w st (suc i) (length st) 0 (nodeAt st i .kids)
   pub free : (i : ℕ) → i < length st → nodeAt st i .own ≡ 0 → next w i ≡ 0
+  pub owns : (i : ℕ) → i < length st → parentOf w i ≡ pred (nodeAt st i .own)
 
-frame : {w v : List ℕ} {st su : List Node} {o b c n : ℕ} {xs : List ℕ} → Kids w st o b n xs → b ≤ c
+-- Children stay children in other words and another store, where their parent and their next siblings stay.
+pub frame : {w v : List ℕ} {st su : List Node} {o b c n : ℕ} {xs : List ℕ} → Kids w st o b n xs → b ≤ c
     → ((x : ℕ) → x < b → nodeAt st x .own ≡ o → (nodeAt su x .own ≡ o) × (next v x ≡ next w x)) → Kids v su o c n xs
 frame nobody h f = nobody
 frame {c = c} (kid {b = b} {x = x} z p q r k) h f =
@@ -140,6 +146,7 @@ module _ {w : List ℕ} {st : List Node} (n j v : ℕ) (hn : n < length st) (hj 
             (frame (e .chains i (rw len at l)) (le-of-eq (sym len)) (λ x b q.
             (keep (λ y. y .own) st n z noNode (with-own j v (nodeAt st n)) x ∙ q, getD-set-other w (place n j) (place x nextWord) v 0 (omega arith))));
         free = λ i l q. getD-set-other w (place n j) (place i nextWord) v 0 (omega arith) ∙ e .free i (rw len at l) (sym (keep (λ y. y .own) st n z noNode (with-own j v (nodeAt st n)) i) ∙ q);
+        owns = λ i l. getD-set-other w (place n j) (place i parentWord) v 0 (omega arith) ∙ (e .owns i (rw len at l) ∙ ap pred (sym (keep (λ y. y .own) st n z noNode (with-own j v (nodeAt st n)) i)));
       }
 
 -- ---- one more node
@@ -148,11 +155,11 @@ module _ (w : List ℕ) (st : List Node) (start kind payload : ℕ) (h : nodeWid
   abbrev new : Node
   new = newNode start kind payload
 
-  abbrev five : List ℕ
-  five = nodeWords (record { kind = kind; payload = payload; first = start; end = start; next = 0; child = 0 })
+  abbrev newWords : List ℕ
+  newWords = nodeWords (record { kind = kind; payload = payload; first = start; end = start; next = 0; child = 0; parent = 0 })
 
   abbrev with-new : List ℕ
-  with-new = sets w (nodeWidth * length st) five
+  with-new = sets w (nodeWidth * length st) newWords
 
   upto : (i : ℕ) → i < length (st ++ (new ∷ [])) → i ≤ length st
   upto i l = omega (arith, l, length-append st (new ∷ []))
@@ -164,12 +171,12 @@ module _ (w : List ℕ) (st : List Node) (start kind payload : ℕ) (h : nodeWid
   fresh = getD-append-seam st new [] noNode
 
   old-word : (i j : ℕ) → i < length st → j < nodeWidth → getD with-new (place i j) 0 ≡ getD w (place i j) 0
-  old-word i j l g = sets-before five w (nodeWidth * length st) (place i j) (omega arith)
+  old-word i j l g = sets-before newWords w (nodeWidth * length st) (place i j) (omega arith)
 
-  new-word : (j : ℕ) → j < nodeWidth → getD with-new (place (length st) j) 0 ≡ getD five j 0
-  new-word j g = sets-in five w (nodeWidth * length st) j g h
+  new-word : (j : ℕ) → j < nodeWidth → getD with-new (place (length st) j) 0 ≡ getD newWords j 0
+  new-word j g = sets-in newWords w (nodeWidth * length st) j g h
 
-  three : (j : ℕ) → j < 3 → getD five j 0 ≡ word j new
+  three : (j : ℕ) → j < 3 → getD newWords j 0 ≡ word j new
   three zero l = refl
   three (suc zero) l = refl
   three (suc (suc zero)) l = refl
@@ -188,6 +195,7 @@ module _ (w : List ℕ) (st : List Node) (start kind payload : ℕ) (h : nodeWid
         firsts = λ i l. firstAt i (upto i l) (ℕ-discrete i (length st));
         chains = λ i l. chainAt i (upto i l) (ℕ-discrete i (length st));
         free = λ i l q. freeAt i (upto i l) q (ℕ-discrete i (length st));
+        owns = λ i l. ownAt i (upto i l) (ℕ-discrete i (length st));
       }
     where
       firstAt : (i : ℕ) → i ≤ length st → Dec (i ≡ length st) → getD with-new (place i childWord) 0 ≡ firstKid (nodeAt (st ++ (new ∷ [])) i .kids)
@@ -203,6 +211,10 @@ module _ (w : List ℕ) (st : List Node) (start kind payload : ℕ) (h : nodeWid
       freeAt : (i : ℕ) → i ≤ length st → nodeAt (st ++ (new ∷ [])) i .own ≡ 0 → Dec (i ≡ length st) → next with-new i ≡ 0
       freeAt i l r (yes q) = rw q (new-word nextWord (omega arith))
       freeAt i l r (no q) = let g : i < length st = omega arith in old-word i nextWord g (omega arith) ∙ e .free i g (rw (old i g) at r)
+
+      ownAt : (i : ℕ) → i ≤ length st → Dec (i ≡ length st) → getD with-new (place i parentWord) 0 ≡ pred (nodeAt (st ++ (new ∷ [])) i .own)
+      ownAt i l (yes q) = rw (q, fresh) (new-word parentWord (omega arith))
+      ownAt i l (no q) = let g : i < length st = omega arith in rw (old i g) (old-word i parentWord g (omega arith) ∙ e .owns i g)
 
 -- ---- a child linked
 
@@ -243,41 +255,59 @@ module _ {w : List ℕ} {st : List Node} (room : nodeWidth * length st ≤ lengt
   unfolding adopted
   kids-mid j = keep (λ x. x .kids) mid c (withOwn (suc p) (nodeAt mid c)) noNode refl j
 
-  kids-same : nodeAt (adopted p c st) p .kids ≡ c ∷ nodeAt st p .kids
+  pub kids-same : nodeAt (adopted p c st) p .kids ≡ c ∷ nodeAt st p .kids
   kids-same = kids-mid p ∙ ap (λ x. x .kids) (getD-set-same st p (withKid c (nodeAt st p)) noNode hp)
 
-  kids-other : (j : ℕ) → j ≢ p → nodeAt (adopted p c st) j .kids ≡ nodeAt st j .kids
+  pub kids-other : (j : ℕ) → j ≢ p → nodeAt (adopted p c st) j .kids ≡ nodeAt st j .kids
   kids-other j q = kids-mid j ∙ ap (λ x. x .kids) (getD-set-other st p j (withKid c (nodeAt st p)) noNode q)
 
-  own-same : nodeAt (adopted p c st) c .own ≡ suc p
+  pub own-same : nodeAt (adopted p c st) c .own ≡ suc p
   unfolding adopted
   own-same = ap (λ x. x .own) (getD-set-same mid c (withOwn (suc p) (nodeAt mid c)) noNode (simp length-set hc))
 
-  own-other : (j : ℕ) → j ≢ c → nodeAt (adopted p c st) j .own ≡ nodeAt st j .own
+  pub own-other : (j : ℕ) → j ≢ c → nodeAt (adopted p c st) j .own ≡ nodeAt st j .own
   unfolding adopted
   own-other j q = ap (λ x. x .own) (getD-set-other mid c j (withOwn (suc p) (nodeAt mid c)) noNode q) ∙ keep (λ x. x .own) st p (withKid c (nodeAt st p)) noNode refl j
 
   still : (j o : ℕ) → nodeAt st j .own ≡ suc o → nodeAt (adopted p c st) j .own ≡ suc o
   still j o h = own-other j (λ q. let g : nodeAt st c .own ≡ suc o = rw q at h in omega arith) ∙ h
 
+  -- The child's parent is written last.
+  abbrev told : List ℕ → List ℕ
+  told u = set u (place c parentWord) p
+
+  told-other : (u : List ℕ) (i j : ℕ) → j < parentWord → getD (told u) (place i j) 0 ≡ getD u (place i j) 0
+  told-other u i j l = getD-set-other u (place c parentWord) (place i j) p 0 (omega arith)
+
+  told-owns : (u : List ℕ) → length u ≡ length w → ((i : ℕ) → getD u (place i parentWord) 0 ≡ getD w (place i parentWord) 0) → (i : ℕ) → i < length st → getD (told u) (place i parentWord) 0 ≡ pred (nodeAt (adopted p c st) i .own)
+  told-owns u n k i l = go (ℕ-discrete i c)
+    where
+      go : Dec (i ≡ c) → getD (told u) (place i parentWord) 0 ≡ pred (nodeAt (adopted p c st) i .own)
+      go (yes q) = rw (q, own-same) (getD-set-same u (place c parentWord) p 0 (omega (arith, room, n)))
+      go (no q) = rw (own-other i q) (getD-set-other u (place c parentWord) (place i parentWord) p 0 (λ x. q (omega arith)) ∙ (k i ∙ e .owns i l))
+
   -- It is the first one.
-  link-first : nodeAt st p .kids ≡ [] → 0 < c → Encodes (set w (place p childWord) c) (adopted p c st)
+  link-first : nodeAt st p .kids ≡ [] → 0 < c → Encodes (told (set w (place p childWord) c)) (adopted p c st)
   link-first hk pos =
       record {
         firsts = λ j l. firstAt j (rw len at l) (ℕ-discrete j p);
         chains = λ j l. chainAt j (rw len at l) (ℕ-discrete j p);
         free = λ j l q. freeAt j (rw len at l) q (ℕ-discrete j c);
+        owns = λ j l. told-owns u (length-set w _ c) (λ i. getD-set-other w (place p childWord) (place i parentWord) c 0 (omega arith)) j (rw len at l);
       }
     where
+      u : List ℕ
+      u = set w (place p childWord) c
+
       v : List ℕ
-      v = set w (place p childWord) c
+      v = told u
 
       sib : (j : ℕ) → next v j ≡ next w j
-      sib j = getD-set-other w (place p childWord) (place j nextWord) c 0 (omega arith)
+      sib j = told-other u j nextWord (omega arith) ∙ getD-set-other w (place p childWord) (place j nextWord) c 0 (omega arith)
 
       firstAt : (j : ℕ) → j < length st → Dec (j ≡ p) → getD v (place j childWord) 0 ≡ firstKid (nodeAt (adopted p c st) j .kids)
-      firstAt j l (yes q) = rw (q, kids-same, hk) (getD-set-same w (place p childWord) c 0 (omega arith))
-      firstAt j l (no q) = rw (kids-other j q) (getD-set-other w (place p childWord) (place j childWord) c 0 (λ x. q (omega arith)) ∙ e .firsts j l)
+      firstAt j l (yes q) = rw (q, kids-same, hk) (told-other u p childWord (omega arith) ∙ getD-set-same w (place p childWord) c 0 (omega arith))
+      firstAt j l (no q) = rw (kids-other j q) (told-other u j childWord (omega arith) ∙ (getD-set-other w (place p childWord) (place j childWord) c 0 (λ x. q (omega arith)) ∙ e .firsts j l))
 
       chainAt : (j : ℕ) → j < length st → Dec (j ≡ p) → Kids v (adopted p c st) (suc j) (length (adopted p c st)) 0 (nodeAt (adopted p c st) j .kids)
       chainAt j l (yes q) = rw (q, kids-same, hk, len) (kid pos hc own-same (sib c ∙ e .free c hc hf) nobody)
@@ -288,19 +318,23 @@ module _ {w : List ℕ} {st : List Node} (room : nodeWidth * length st ≤ lengt
       freeAt j l r (no q) = sib j ∙ e .free j l (sym (own-other j q) ∙ r)
 
   -- It comes after another.
-  link-after : (y : ℕ) (ys : List ℕ) → nodeAt st p .kids ≡ y ∷ ys → Kids w st (suc p) (length st) 0 (y ∷ ys) → y < c → Encodes (set w (place y nextWord) c) (adopted p c st)
+  link-after : (y : ℕ) (ys : List ℕ) → nodeAt st p .kids ≡ y ∷ ys → Kids w st (suc p) (length st) 0 (y ∷ ys) → y < c → Encodes (told (set w (place y nextWord) c)) (adopted p c st)
   link-after y ys hk (kid hz hy ho hn rest) pos =
       record {
-        firsts = λ j l. getD-set-other w (place y nextWord) (place j childWord) c 0 (omega arith) ∙ (e .firsts j (rw len at l) ∙ firstAt j (ℕ-discrete j p));
+        firsts = λ j l. told-other u j childWord (omega arith) ∙ (getD-set-other w (place y nextWord) (place j childWord) c 0 (omega arith) ∙ (e .firsts j (rw len at l) ∙ firstAt j (ℕ-discrete j p)));
         chains = λ j l. chainAt j (rw len at l) (ℕ-discrete j p);
         free = λ j l q. freeAt j (rw len at l) q (ℕ-discrete j c);
+        owns = λ j l. told-owns u (length-set w _ c) (λ i. getD-set-other w (place y nextWord) (place i parentWord) c 0 (omega arith)) j (rw len at l);
       }
     where
+      u : List ℕ
+      u = set w (place y nextWord) c
+
       v : List ℕ
-      v = set w (place y nextWord) c
+      v = told u
 
       sib : (j : ℕ) → j ≢ y → next v j ≡ next w j
-      sib j q = getD-set-other w (place y nextWord) (place j nextWord) c 0 (λ z. q (omega arith))
+      sib j q = told-other u j nextWord (omega arith) ∙ getD-set-other w (place y nextWord) (place j nextWord) c 0 (λ z. q (omega arith))
 
       firstAt : (j : ℕ) → Dec (j ≡ p) → firstKid (nodeAt st j .kids) ≡ firstKid (nodeAt (adopted p c st) j .kids)
       firstAt j (yes q) = rw (q, kids-same, hk)
@@ -311,7 +345,7 @@ module _ {w : List ℕ} {st : List Node} (room : nodeWidth * length st ≤ lengt
           let z₀ : 0 < c = omega arith in
           rw (q, kids-same, hk, len)
           (kid z₀ hc own-same (sib c (omega arith) ∙ e .free c hc hf)
-          (kid hz pos (still y p ho) (getD-set-same w (place y nextWord) c 0 (omega arith)) (frame rest (le-refl _) (λ x a r. (still x p r, sib x (omega arith))))))
+          (kid hz pos (still y p ho) (told-other u y nextWord (omega arith) ∙ getD-set-same w (place y nextWord) c 0 (omega arith)) (frame rest (le-refl _) (λ x a r. (still x p r, sib x (omega arith))))))
       chainAt j l (no q) = rw (kids-other j q, len) (frame (e .chains j l) (le-refl _) (λ x a r. (still x j r, sib x (λ z. q (let g : nodeAt st y .own ≡ suc j = rw z at r in omega arith)))))
 
       freeAt : (j : ℕ) → j < length st → nodeAt (adopted p c st) j .own ≡ 0 → Dec (j ≡ c) → next v j ≡ 0
@@ -322,7 +356,7 @@ module _ {w : List ℕ} {st : List Node} (room : nodeWidth * length st ≤ lengt
 
   -- Which of the two, by the last child that is given.
   link-list : (l : ℕ) (ks : List ℕ) → nodeAt st p .kids ≡ ks → Kids w st (suc p) (length st) 0 ks → l ≡ lastKid ks → l < c
-      → (l ≡ 0 → Encodes (set w (place p childWord) c) (adopted p c st)) × (l ≢ 0 → (l < length st) × Encodes (set w (place l nextWord) c) (adopted p c st))
+      → (l ≡ 0 → Encodes (told (set w (place p childWord) c)) (adopted p c st)) × (l ≢ 0 → (l < length st) × Encodes (told (set w (place l nextWord) c)) (adopted p c st))
   link-list l [] hk k q h = ((λ z. link-first hk (omega arith)), (λ z. absurd (z q)))
   link-list l (y ∷ ys) hk (kid z a o n r) q h = ((λ x. absurd (omega arith)), (λ x. rw q (a, link-after y ys hk (kid z a o n r) (omega arith))))
 
@@ -330,9 +364,9 @@ pub both-true : (b c : Bool) → (b && c) ≡ true → (b ≡ true) × (c ≡ tr
 both-true true c h = (refl, h)
 both-true false c h = (cc, cc)
 
--- A child that may be linked is linked by one word: the parent's first child, or the last child's next sibling.
+-- A child that may be linked is linked by two words: the parent's first child or the last child's next sibling, and the child's parent.
 pub links-adopted : {w : List ℕ} {st : List Node} (p l c : ℕ) → nodeWidth * length st ≤ length w → Encodes w st → mayAdopt p l c st ≡ true
-    → (p < length st) × (l ≡ 0 → Encodes (set w (place p childWord) c) (adopted p c st)) × (l ≢ 0 → (l < length st) × Encodes (set w (place l nextWord) c) (adopted p c st))
+    → (p < length st) × (c < length st) × (l ≡ 0 → Encodes (set (set w (place p childWord) c) (place c parentWord) p) (adopted p c st)) × (l ≢ 0 → (l < length st) × Encodes (set (set w (place l nextWord) c) (place c parentWord) p) (adopted p c st))
 unfolding mayAdopt
 links-adopted {w} {st} p l c room e h =
     let (a, h₁) = both-true _ _ h in
@@ -340,5 +374,6 @@ links-adopted {w} {st} p l c room e h =
     let (o, h₃) = both-true _ _ h₂ in
     let (k, n) = both-true _ _ h₃ in
     let lp : p < length st = ltb-true _ _ a in
-    let x = link-list room e p c lp (ltb-true _ _ b) (eqb-true _ _ o) l _ refl (e .chains p lp) (eqb-true _ _ k) (ltb-true _ _ n) in
-    (lp, x .0, x .1)
+    let lc : c < length st = ltb-true _ _ b in
+    let x = link-list room e p c lp lc (eqb-true _ _ o) l _ refl (e .chains p lp) (eqb-true _ _ k) (ltb-true _ _ n) in
+    (lp, lc, x .0, x .1)

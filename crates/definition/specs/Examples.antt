@@ -23,14 +23,14 @@ abbrev ascii : String → List ℕ
 ascii String.[] = []
 ascii (String._∷_ c s) = code c ∷ ascii s
 
-abbrev node : ℕ → ℕ → ℕ → ℕ → ℕ → ℕ → List ℕ
-node kind payload first end next child = nodeWords (record { kind = kind; payload = payload; first = first; end = end; next = next; child = child })
+abbrev node : ℕ → ℕ → ℕ → ℕ → ℕ → ℕ → ℕ → List ℕ
+node kind payload first end next child parent = nodeWords (record { kind = kind; payload = payload; first = first; end = end; next = next; child = child; parent = parent })
 
 abbrev stored : ℕ → ℕ → ℕ → ℕ → List ℕ → ℕ → Abstract.Node
 stored kind payload first end kids own = record { head = nodeHead kind payload; first = first; end = end; kids = kids; own = own }
 
 -- P1: "empty text: Eof, File 0 to 0".
-p1 : computed [] (tokenWord Token.Eof 0 ∷ []) 7 0 0 ≡ record { answer = Answer.done (1 ∷ 0 ∷ 0 ∷ []); words = memory (node Node.File 0 0 0 0 0 ++ (0 ∷ 0 ∷ [])) [] [] }
+p1 : computed [] (tokenWord Token.Eof 0 ∷ []) 8 0 0 ≡ record { answer = Answer.done (1 ∷ 0 ∷ 0 ∷ []); words = memory (node Node.File 0 0 0 0 0 0 ++ (0 ∷ 0 ∷ [])) [] [] }
 unfolding computed pack
 p1 = refl
 
@@ -52,12 +52,12 @@ const-a nodes values =
     values
     0
 
--- "0 0 0 0 8 0 1", "1 1 0 0 8 0 2", "2 36 2 2 3 3 0", "3 33 0 6 7 0 0"
-tree : const-a 20 2
+-- "0 0 0 0 8 0 1 0", "1 1 0 0 8 0 2 0", "2 36 2 2 3 3 0 1", "3 33 0 6 7 0 0 1"
+tree : const-a 24 2
     ≡ record {
       answer = Answer.done (4 ∷ 2 ∷ 0 ∷ []);
       words = memory
-          (node Node.File 0 0 8 0 1 ++ (node Node.ConstDecl 0 0 8 0 2 ++ (node Node.Identifier 2 2 3 3 0 ++ node Node.NumLiteral 0 6 7 0 0)))
+          (node Node.File 0 0 8 0 1 0 ++ (node Node.ConstDecl 0 0 8 0 2 0 ++ (node Node.Identifier 2 2 3 3 0 1 ++ node Node.NumLiteral 0 6 7 0 0 1)))
           (valueHead 1 1 ∷ 1 ∷ [])
           [];
     }
@@ -65,12 +65,12 @@ unfolding const-a computed pack
 tree = refl
 
 -- The value comes before the node, and both after the number's token.
-no-room : (const-a 15 1 .answer ≡ Answer.refused Refusal.ValuesDontFit 7) × (const-a 15 2 .answer ≡ Answer.refused Refusal.NodesDontFit 7)
+no-room : (const-a 18 1 .answer ≡ Answer.refused Refusal.ValuesDontFit 7) × (const-a 18 2 .answer ≡ Answer.refused Refusal.NodesDontFit 7)
 unfolding const-a computed pack
 no-room = (refl, refl)
 
 -- "Output slices are all 0."
-all-zero : const-a 15 2 .words ≡ memory (replicate 15 0) (replicate 2 0) []
+all-zero : const-a 18 2 .words ≡ memory (replicate 18 0) (replicate 2 0) []
 unfolding const-a computed pack
 all-zero = refl
 

@@ -21,7 +21,7 @@ use Rattle.literals.specs.declared.Span.{Span}
 use Rattle.literals.specs.Spelling as Source
 use Rattle.definition.specs.declared.State.{State}
 use Rattle.definition.specs.declared.Mode.{Mode}
-use Rattle.definition.specs.Prog.{Turn, again, stop, Prog, Give, Then, Branch, Loop, peek, pass, position, here, before, spelling, intern, marked, emit, emitAndMark, alloc, closeAt, closeAtStart, setKind, link, kindOf, value, enterExpr, enterBlock, Memory, memory, Out, done, refused, bind, withCursor, advanced, reported, isMarked, markedHere, lastNode, allocated, wordOf, stored, linked, childWord, nextWord, endWord, firstWord, headWord, valued, iter, Readers, kindAt, passed, skipped, eval, tower}
+use Rattle.definition.specs.Prog.{Turn, again, stop, Prog, Give, Then, Branch, Loop, peek, pass, position, here, before, spelling, intern, marked, emit, emitAndMark, alloc, closeAt, closeAtStart, setKind, link, kindOf, value, enterExpr, enterBlock, Memory, memory, Out, done, refused, bind, withCursor, advanced, reported, isMarked, markedHere, lastNode, allocated, wordOf, stored, linked, parentWord, childWord, nextWord, endWord, firstWord, headWord, valued, iter, Readers, kindAt, passed, skipped, eval, tower}
 use Rattle.definition.specs.Expressions.{tryParseExprMinBp}
 use Rattle.definition.specs.Statements.{parseBlock}
 use Rattle.definition.specs.Declarations.{parseFile}
@@ -106,7 +106,7 @@ module _ (more : Memory) where
   allocated-grows : (first kind payload : ℕ) → Grow (allocated first kind payload)
   unfolding allocated
   allocated-grows first kind payload s m w =
-      let ws = Words.nodeWords (record { kind = kind; payload = payload; first = first; end = first; next = 0; child = 0 }) in
+      let ws = Words.nodeWords (record { kind = kind; payload = payload; first = first; end = first; next = 0; child = 0; parent = 0 }) in
       let b = ltb (s .nodes) lastNode in
       let c = leb (nodeWidth * s .nodes + nodeWidth) (length (m .nodes)) in
       fits _ _ _ (b && c) (b && leb (nodeWidth * s .nodes + nodeWidth) (length (m .nodes ++ more .nodes)))
@@ -144,9 +144,14 @@ module _ (more : Memory) where
           (ran (record { nodes = written-set (nodeWidth * i + word) v h (w .nodes); values = w .values; reports = w .reports }))
       go false e = ran w
 
+  -- One word more is stored.
+  also-stored : (i word v : ℕ) (s : State) {m n : Memory} → Grows {A = Unit {0}} (done tt s m) (done tt s n) → word < nodeWidth
+      → Grows {A = Unit {0}} (done tt s (stored i word v s m)) (done tt s (stored i word v s n))
+  also-stored i word v s g l = after {A = Unit {0}} (λ _ t n. done tt t (stored i word v t n)) g (λ _ t n w. stored-grows i word v t n w l)
+
   linked-grows : (parent last child : ℕ) (s : State) (m : Memory) → Tidy s m → Grows {A = Unit {0}} (done tt s (linked parent last child s m)) (done tt s (linked parent last child s (longer m)))
   unfolding linked
-  linked-grows parent last child s m w = go (eqb last 0)
+  linked-grows parent last child s m w = also-stored child parentWord _ s (go (eqb last 0)) (omega arith)
     where
       go : (b : Bool) → Grows {A = Unit {0}} (done tt s (cond b (stored parent childWord child s m) (stored last nextWord child s m)))
           (done tt s (cond b (stored parent childWord child s (longer m)) (stored last nextWord child s (longer m))))

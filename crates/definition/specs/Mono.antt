@@ -19,7 +19,7 @@ use Rattle.literals.specs.declared.Span.{Span}
 use Rattle.literals.specs.Spelling as Source
 use Rattle.definition.specs.declared.State.{State}
 use Rattle.definition.specs.declared.Mode.{Mode}
-use Rattle.definition.specs.Prog.{Turn, again, stop, Prog, Give, Then, Branch, Loop, peek, pass, position, here, before, spelling, intern, marked, emit, emitAndMark, alloc, closeAt, closeAtStart, setKind, link, kindOf, value, enterExpr, enterBlock, Memory, memory, Out, done, refused, bind, withCursor, withNodes, withValues, withReports, advanced, reported, isMarked, markedHere, lastNode, allocated, stored, linked, childWord, nextWord, valued, iter, Readers, kindAt, passed, skipped, eval, tower}
+use Rattle.definition.specs.Prog.{Turn, again, stop, Prog, Give, Then, Branch, Loop, peek, pass, position, here, before, spelling, intern, marked, emit, emitAndMark, alloc, closeAt, closeAtStart, setKind, link, kindOf, value, enterExpr, enterBlock, Memory, memory, Out, done, refused, bind, withCursor, withNodes, withValues, withReports, advanced, reported, isMarked, markedHere, lastNode, allocated, stored, linked, parentWord, childWord, nextWord, valued, iter, Readers, kindAt, passed, skipped, eval, tower}
 
 -- From one state and its words to a later one.
 pub record Later (s : State) (m : Memory) (t : State) (n : Memory) : Type 0 where
@@ -166,7 +166,7 @@ stored-later i word w s m = go (ltb i (s .nodes))
 
 pub linked-later : (parent last child : ℕ) (s : State) (m : Memory) → Later s m s (linked parent last child s m)
 unfolding linked
-linked-later parent last child s m = go (eqb last 0)
+linked-later parent last child s m = later (go (eqb last 0)) (stored-later child parentWord _ s _)
   where
     go : (b : Bool) → Later s m s (cond b (stored parent childWord child s m) (stored last nextWord child s m))
     go true = stored-later parent childWord child s m

@@ -143,14 +143,15 @@ markedHere s = withMark (s .cursor .at + 1) s
 abbrev pub lastNode : ℕ
 lastNode = 4294967295
 
--- `alloc_node_from`: "Node, five words" (01, Words that are lent); "5 nodes, .. don't fit (token number)" (01, Refusals).
+-- `alloc_node_from`: "Node, five words" (01, Words that are lent); "a sixth word, its parent; File has 0, and so has a node that nobody links" (01, W3);
+-- "5 nodes, .. don't fit (token number)" (01, Refusals).
 unfoldable pub allocated : ℕ → ℕ → ℕ → State → Memory → Out ℕ
 allocated start kind payload s m =
     elim (ltb (s .nodes) lastNode && leb (nodeWidth * s .nodes + nodeWidth) (length (m .nodes))) [
       | true ↦
           done (s .nodes) (withNodes (s .nodes + 1) s)
           (memory
-          (sets (m .nodes) (nodeWidth * s .nodes) (nodeWords (record { kind = kind; payload = payload; first = start; end = start; next = 0; child = 0 })))
+          (sets (m .nodes) (nodeWidth * s .nodes) (nodeWords (record { kind = kind; payload = payload; first = start; end = start; next = 0; child = 0; parent = 0 })))
           (m .values)
           (m .reports))
       | false ↦ refused Refusal.NodesDontFit (s .cursor .at)
@@ -172,6 +173,9 @@ nextWord = 3
 abbrev pub childWord : ℕ
 childWord = 4
 
+abbrev pub parentWord : ℕ
+parentWord = 5
+
 -- A word of a node, read and written. A number that no node has is not written; its words are 0.
 unfoldable pub wordOf : ℕ → ℕ → State → Memory → ℕ
 wordOf n word s m = cond (ltb n (s .nodes)) (getD (m .nodes) (nodeWidth * n + word) 0) 0
@@ -179,9 +183,9 @@ wordOf n word s m = cond (ltb n (s .nodes)) (getD (m .nodes) (nodeWidth * n + wo
 unfoldable pub stored : ℕ → ℕ → ℕ → State → Memory → Memory
 stored n word w s m = cond (ltb n (s .nodes)) (memory (set (m .nodes) (nodeWidth * n + word) w) (m .values) (m .reports)) m
 
--- `push_child`: the first child of its parent, or the next sibling of the last child.
+-- `push_child`: the first child of its parent, or the next sibling of the last child. "A node gets a sixth word, its parent" (01, W3): the child's.
 unfoldable pub linked : ℕ → ℕ → ℕ → State → Memory → Memory
-linked parent last child s m = cond (eqb last 0) (stored parent childWord child s m) (stored last nextWord child s m)
+linked parent last child s m = stored child parentWord parent s (cond (eqb last 0) (stored parent childWord child s m) (stored last nextWord child s m))
 
 -- "6 values, .. don't fit (token number)" (01, Refusals).
 unfoldable pub valued : List ℕ → State → Memory → Out ℕ

@@ -27,7 +27,7 @@ use Rattle.literals.specs.Spelling as Source
 use Rattle.definition.specs.declared.Cursor.{Cursor}
 use Rattle.definition.specs.declared.State.{State}
 use Rattle.definition.specs.declared.Mode.{Mode}
-use Rattle.definition.specs.Prog.{Turn, again, stop, Prog, Give, Then, Branch, Loop, peek, pass, position, here, before, spelling, intern, marked, emit, emitAndMark, alloc, closeAt, closeAtStart, setKind, link, kindOf, value, enterExpr, enterBlock, Memory, memory, Out, done, refused, bind, withCursor, withNodes, withValues, withReports, advanced, reported, markedHere, lastNode, allocated, headWord, firstWord, endWord, nextWord, childWord, wordOf, stored, linked, valued, iter, Readers, kindAt, passed, skipped, eval, tower}
+use Rattle.definition.specs.Prog.{Turn, again, stop, Prog, Give, Then, Branch, Loop, peek, pass, position, here, before, spelling, intern, marked, emit, emitAndMark, alloc, closeAt, closeAtStart, setKind, link, kindOf, value, enterExpr, enterBlock, Memory, memory, Out, done, refused, bind, withCursor, withNodes, withValues, withReports, advanced, reported, markedHere, lastNode, allocated, headWord, firstWord, endWord, nextWord, childWord, parentWord, wordOf, stored, linked, valued, iter, Readers, kindAt, passed, skipped, eval, tower}
 use Rattle.definition.specs.Expressions.{tryParseExprMinBp}
 use Rattle.definition.specs.Statements.{parseBlock}
 use Rattle.definition.specs.Declarations.{parseFile}
@@ -400,11 +400,11 @@ module _ (text tokens : List ℕ) (end lentNodes lentValues : ℕ) where
       new : List Node
       new = w .store ++ (newNode start kind payload ∷ [])
 
-      five : List ℕ
-      five = Words.nodeWords (record { kind = kind; payload = payload; first = start; end = start; next = 0; child = 0 })
+      newWords : List ℕ
+      newWords = Words.nodeWords (record { kind = kind; payload = payload; first = start; end = start; next = 0; child = 0; parent = 0 })
 
       ws : List ℕ
-      ws = sets (m .nodes) (nodeWidth * s .nodes) five
+      ws = sets (m .nodes) (nodeWidth * s .nodes) newWords
 
       longer : length new ≡ length (w .store) + 1
       longer = length-append (w .store) (newNode start kind payload ∷ [])
@@ -417,7 +417,7 @@ module _ (text tokens : List ℕ) (end lentNodes lentValues : ℕ) where
           let n : s .nodes + 1 ≡ length new = omega (arith, longer) in
           let p : Plain ws new = rw k (plain-new (m .nodes) (w .store) start kind payload g (r .nodes .plain)) in
           let l : w .sane ≡ true → Encodes ws new = λ t. rw k (links-new (m .nodes) (w .store) start kind payload g (r .nodes .links t)) in
-          agree {s = withNodes (s .nodes + 1) s} k (record { placed = r .placed; nodes = record { counted = n; length-is = length-sets (m .nodes) (nodeWidth * s .nodes) five ∙ r .nodes .length-is; plain = p; links = l }; values = r .values })
+          agree {s = withNodes (s .nodes + 1) s} k (record { placed = r .placed; nodes = record { counted = n; length-is = length-sets (m .nodes) (nodeWidth * s .nodes) newWords ∙ r .nodes .length-is; plain = p; links = l }; values = r .values })
       go true false e f = let h : lentNodes < nodeWidth * length new = omega (arith, longer, leb-false (nodeWidth * s .nodes + nodeWidth) (length (m .nodes)) f, r .nodes .counted, r .nodes .length-is) in short (nodes h)
       go false c e f = let h : lastNode < length new = omega (arith, longer, ltb-false (s .nodes) lastNode e, r .nodes .counted) in short (numbers h)
 
@@ -444,7 +444,7 @@ module _ (text tokens : List ℕ) (end lentNodes lentValues : ℕ) where
           let h : lentValues < length (w .values ++ ws) = omega (arith, leb-false (s .values + length ws) (length (m .values)) e, r .values .counted, r .values .length-is, length-append (w .values) ws) in
           short (values h)
 
-  -- A link, by the word that is written, if any.
+  -- A link, by the words that are written, if any.
   link-rel : (parent last child : ℕ) {s : State} {m : Memory} {w : World} (ws : List ℕ) → Rel s m w → length ws ≡ length (m .nodes) → Plain ws (w .store)
       → (Encodes (m .nodes) (w .store) → mayAdopt parent last child (w .store) ≡ true → Encodes ws (adopted parent child (w .store))) → Rel s (memory ws (m .values) (m .reports)) (withLink parent last child w)
   link-rel parent last child {s} {m} {w} ws r e p l =
@@ -463,6 +463,13 @@ module _ (text tokens : List ℕ) (end lentNodes lentValues : ℕ) where
   unfolding linked stored
   linked-sim parent last child s m w r = go (eqb last 0) (ltb parent (s .nodes)) (ltb last (s .nodes)) refl refl refl
     where
+      -- the child's parent is written where the child is a node
+      tell : (ws : List ℕ) (d : Bool) → ltb child (s .nodes) ≡ d → length ws ≡ length (m .nodes) → Plain ws (w .store)
+          → (Encodes (m .nodes) (w .store) → mayAdopt parent last child (w .store) ≡ true → Encodes (set ws (place child parentWord) parent) (adopted parent child (w .store)))
+          → Sim {A = Unit {0}} (s .reports) (done tt s (cond d (memory (set ws (place child parentWord) parent) (m .values) (m .reports)) (memory ws (m .values) (m .reports)))) (ok tt (withLink parent last child w))
+      tell ws true e l p k = same refl (link-rel parent last child (set ws (place child parentWord) parent) r (length-set ws _ parent ∙ l) (plain-set child parentWord parent (omega arith) (omega arith) p) k)
+      tell ws false e l p k = same refl (link-rel parent last child ws r l p (λ x y. absurd (omega (arith, links-adopted parent last child (r .nodes .plain .room) x y .1, ltb-false child (s .nodes) e, r .nodes .counted))))
+
       first : List ℕ
       first = set (m .nodes) (place parent childWord) child
 
@@ -470,11 +477,11 @@ module _ (text tokens : List ℕ) (end lentNodes lentValues : ℕ) where
       next = set (m .nodes) (place last nextWord) child
 
       go : (z a b : Bool) → eqb last 0 ≡ z → ltb parent (s .nodes) ≡ a → ltb last (s .nodes) ≡ b
-          → Sim {A = Unit {0}} (s .reports) (done tt s (cond z (cond a (memory first (m .values) (m .reports)) m) (cond b (memory next (m .values) (m .reports)) m))) (ok tt (withLink parent last child w))
-      go true true b e f g = same refl (link-rel parent last child first r (length-set (m .nodes) _ child) (plain-set parent childWord child (omega arith) (omega arith) (r .nodes .plain)) (λ x y. links-adopted parent last child (r .nodes .plain .room) x y .1 (eqb-true _ _ e)))
-      go true false b e f g = same refl (link-rel parent last child (m .nodes) r refl (r .nodes .plain) (λ x y. absurd (omega (arith, links-adopted parent last child (r .nodes .plain .room) x y .0, ltb-false parent (s .nodes) f, r .nodes .counted))))
-      go false a true e f g = same refl (link-rel parent last child next r (length-set (m .nodes) _ child) (plain-set last nextWord child (omega arith) (omega arith) (r .nodes .plain)) (λ x y. links-adopted parent last child (r .nodes .plain .room) x y .2 (eqb-false _ _ e) .1))
-      go false a false e f g = same refl (link-rel parent last child (m .nodes) r refl (r .nodes .plain) (λ x y. absurd (omega (arith, links-adopted parent last child (r .nodes .plain .room) x y .2 (eqb-false _ _ e) .0, ltb-false last (s .nodes) g, r .nodes .counted))))
+          → Sim {A = Unit {0}} (s .reports) (done tt s (stored child parentWord parent s (cond z (cond a (memory first (m .values) (m .reports)) m) (cond b (memory next (m .values) (m .reports)) m)))) (ok tt (withLink parent last child w))
+      go true true b e f g = tell first _ refl (length-set (m .nodes) _ child) (plain-set parent childWord child (omega arith) (omega arith) (r .nodes .plain)) (λ x y. links-adopted parent last child (r .nodes .plain .room) x y .2 (eqb-true _ _ e))
+      go true false b e f g = tell (m .nodes) _ refl refl (r .nodes .plain) (λ x y. absurd (omega (arith, links-adopted parent last child (r .nodes .plain .room) x y .0, ltb-false parent (s .nodes) f, r .nodes .counted)))
+      go false a true e f g = tell next _ refl (length-set (m .nodes) _ child) (plain-set last nextWord child (omega arith) (omega arith) (r .nodes .plain)) (λ x y. links-adopted parent last child (r .nodes .plain .room) x y .3 (eqb-false _ _ e) .1)
+      go false a false e f g = tell (m .nodes) _ refl refl (r .nodes .plain) (λ x y. absurd (omega (arith, links-adopted parent last child (r .nodes .plain .room) x y .3 (eqb-false _ _ e) .0, ltb-false last (s .nodes) g, r .nodes .counted)))
 
   turn-sim : {S : Type 0} (f : S → State → Memory → Out S) (g : S → World → Fate S) → ((x : S) → Sims (f x) (g x)) → (t : Turn S)
       → Sims {A = S} (λ u n. elim t [ again y ↦ f y u n | stop y ↦ done y u n ]) (λ u. elim t [ again y ↦ g y u | stop y ↦ ok y u ])
@@ -540,7 +547,7 @@ module _ (text tokens : List ℕ) (n v r : ℕ) where
           counted = refl;
           length-is = length-replicate n 0;
           plain = record { room = omega arith; words = λ i j l. absurd (omega arith) };
-          links = λ _. record { firsts = λ i l. absurd (omega arith); chains = λ i l. absurd (omega arith); free = λ i l. absurd (omega arith) };
+          links = λ _. record { firsts = λ i l. absurd (omega arith); chains = λ i l. absurd (omega arith); free = λ i l. absurd (omega arith); owns = λ i l. absurd (omega arith) };
         };
         values = record { counted = refl; length-is = length-replicate v 0; fits = omega arith; words = refl };
       }

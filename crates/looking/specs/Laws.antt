@@ -11,6 +11,7 @@ use Rattle.words.specs.Node
 use Rattle.words.specs.Refusal
 use Rattle.words.specs.declared.node.Node.{Node as Fields}
 use Rattle.looking.specs.View.{Seen, is, none, refused, andThen, orElse, count, nodeAt, falls, sound, look, among, nth, counted, turns, of}
+use Rattle.looking.specs.Any.{parent}
 
 -- ---- a node that is looked at
 
@@ -18,6 +19,14 @@ module _ (ns : List ℕ) (n : ℕ) where
   pub look-past : count ns ≤ n → refused Refusal.AlteredNodes n ≡ look ns n
   unfolding look
   look-past h = rw (le-leb (count ns) n h)
+
+  -- A node that is looked at without a refusal is there.
+  pub look-there : (refused Refusal.AlteredNodes n ≡ look ns n → ⊥) → n < count ns
+  look-there z = go (leb (count ns) n) refl
+    where
+      go : (t : Bool) → leb (count ns) n ≡ t → n < count ns
+      go true p = absurd (z (look-past (leb-true (count ns) n p)))
+      go false p = leb-false (count ns) n p
 
   pub looked : n < count ns → (f : Fields) → f ≡ nodeAt ns n → (s : Seen Fields) → s ≡ sound n f → s ≡ look ns n
   unfolding look
@@ -72,6 +81,22 @@ look-kind ns n f e = go (leb (count ns) n) refl
         let z : _≡_ {A = ℕ} 0 1 = cc in
         omega arith
     go false p = sound-kind n (nodeAt ns n) f (rw p at e)
+
+-- ---- the parent
+
+module _ (ns : List ℕ) (n : ℕ) where
+  pub parent-refused : (number place : ℕ) → refused number place ≡ look ns n → refused number place ≡ parent ns n
+  unfolding andThen
+  parent-refused number place e = rw (← e)
+
+  module _ (f : Fields) (e : is f ≡ look ns n) where
+    pub parent-file : n ≡ 0 → none ≡ parent ns n
+    unfolding andThen
+    parent-file z = rw (← e, eq-eqb n 0 z)
+
+    pub parent-is : (n ≡ 0 → ⊥) → is (f .parent) ≡ parent ns n
+    unfolding andThen
+    parent-is z = rw (← e, ne-eqb n 0 z)
 
 -- ---- the turns of the loops, of which `t` are left where one begins
 

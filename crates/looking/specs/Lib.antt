@@ -1,3 +1,4 @@
 pub mod Any
 pub mod Laws
 pub mod View
+pub mod Ways

@@ -1,12 +1,14 @@
-// Any node (`NodeView` of cst/mod.rs).
+// Any node (`NodeView` of cst/mod.rs), and its parent, which the Rust doesn't have.
 ghost use mathlib.Core.Path.{_≡_};
 ghost use Rattle.looking.specs.View.{answer, counts, spans, ident};
-ghost use Rattle.looking.specs.Any.{kind, span, child, childCount};
+ghost use Rattle.looking.specs.Any.{kind, span, child, childCount, parent};
 use crate::Count;
+use crate::Looked;
 use crate::Spanned;
 use crate::View;
 use crate::count_of;
 use crate::kind_of;
+use crate::look;
 use crate::nth_of;
 use crate::payload_of;
 use crate::span_of;
@@ -53,4 +55,19 @@ pub fn ident(nodes: &[u32], n: u32) -> View
     ensures { λ r. ⌜ answer r ≡ ident (now (nodes .entry)) n ⌝ }
 {
     payload_of(nodes, n, node::IDENTIFIER, node::IDENTIFIER)
+}
+
+// The number in its sixth word: the node whose child it is. File has none.
+pub fn parent(nodes: &[u32], n: u32) -> View
+    ensures { λ r. ⌜ answer r ≡ parent (now (nodes .entry)) n ⌝ }
+{
+    match look(nodes, n) {
+        Looked::Altered(place) => View::Refused(place),
+        Looked::At(node) => {
+            if n == 0 {
+                return View::None;
+            }
+            View::Is(node.parent)
+        }
+    }
 }

@@ -62,6 +62,7 @@ fn node_at(nodes: &[u32], n: u32) -> Node
         nodes[at + 2],
         nodes[at + 3],
         nodes[at + 4],
+        nodes[at + 5],
     ])
 }
 

@@ -1,9 +1,9 @@
-// A view of a node, which keeps the node words it looks at (`NodeView` of cst/mod.rs). Each method takes it apart and asks crate
-// looking; the functions behind them make a view of plain words and ask it.
+// A view of a node, which keeps the node words it looks at (`NodeView` of cst/mod.rs; its `parent` is not the Rust's). Each method takes it
+// apart and asks crate looking; the functions behind them make a view of plain words and ask it.
 ghost use mathlib.Core.Path.{_≡_};
 ghost use Rattle.looking.specs.View.{answer, spans, counts, ident, nameOf};
 ghost use Rattle.words.specs.Node;
-ghost use Rattle.looking.specs.Any.{kind, span, child, childCount};
+ghost use Rattle.looking.specs.Any.{kind, span, child, childCount, parent};
 use looking::Count;
 use looking::Spanned;
 use looking::View;
@@ -66,6 +66,13 @@ impl<'a> NodeView<'a> {
     {
         any::ident(self.nodes, self.n)
     }
+
+    // The number of the node whose child it is; File has none.
+    pub fn parent(self) -> View
+        ensures { λ r. ⌜ answer r ≡ parent (now (self .entry .nodes)) (self .entry .n) ⌝ }
+    {
+        any::parent(self.nodes, self.n)
+    }
 }
 
 // The methods, for callers that have plain words.
@@ -97,6 +104,12 @@ pub fn ident_at(nodes: &[u32], n: u32) -> View
     ensures { λ r. ⌜ answer r ≡ ident (now (nodes .entry)) n ⌝ }
 {
     NodeView::new(nodes, n).ident()
+}
+
+pub fn parent_at(nodes: &[u32], n: u32) -> View
+    ensures { λ r. ⌜ answer r ≡ parent (now (nodes .entry)) n ⌝ }
+{
+    NodeView::new(nodes, n).parent()
 }
 
 // The name that another node is, by a view that moves there.

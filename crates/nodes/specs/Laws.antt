@@ -14,7 +14,7 @@ use Rattle.words.specs.declared.node.Node.{Node}
 use Rattle.words.specs.Words.{nodeHead, nodeKind, nodeWidth, nodeWords}
 use Rattle.definition.specs.declared.State.{State}
 use Rattle.definition.specs.Prog.{Prog, Act, alloc, closeAt, closeAtStart, setKind, link, kindOf, Memory, memory, done, refused, eval}
-use Rattle.definition.specs.Prog.{allocated, lastNode, withNodes, wordOf, stored, linked, headWord, firstWord, endWord, nextWord, childWord}
+use Rattle.definition.specs.Prog.{allocated, lastNode, withNodes, wordOf, stored, linked, headWord, firstWord, endWord, nextWord, childWord, parentWord}
 use Rattle.reading.specs.declared.Reading.{Reading}
 use Rattle.reading.specs.Does.{Does, run, refusedAt, goes, halts}
 use Rattle.nodes.specs.Words.{hasRoom, storedIn, wordIn}
@@ -29,6 +29,12 @@ stored-in n word w s ns vs rs = go (ltb n (s .nodes))
         ≡ memory (cond b (memory (set ns (nodeWidth * n + word) w) [] []) (memory ns [] []) .nodes) vs rs
     go true = refl
     go false = refl
+
+-- One word, and then a child's parent.
+stored-two : (n word w child parent : ℕ) (s : State) (ns mid ns′ vs rs : List ℕ) → mid ≡ storedIn n word w s ns → ns′ ≡ storedIn child parentWord parent s mid
+    → stored child parentWord parent s (stored n word w s (memory ns vs rs)) ≡ memory ns′ vs rs
+stored-two n word w child parent s ns mid ns′ vs rs e f =
+    ap (stored child parentWord parent s) (stored-in n word w s ns vs rs ∙ ap (λ x. memory x vs rs) (sym e)) ∙ (stored-in child parentWord parent s mid vs rs ∙ ap (λ x. memory x vs rs) (sym f))
 
 module _ (n word : ℕ) (s : State) (ns : List ℕ) where
   pub stored-none : (w : ℕ) → s .nodes ≤ n → ns ≡ storedIn n word w s ns
@@ -80,15 +86,17 @@ module _ {text tokens : List ℕ} {d : ℕ} {r : Reading} (ns vs rs ns′ : List
   unfolding eval
   setKind-is n kind payload head e f = writes n headWord head (rw e) f
 
-  pub link-first : (parent last child : ℕ) → last ≡ 0 → ns′ ≡ storedIn parent childWord child (r .state) ns
-      → Does text tokens d (link parent last child) r (memory ns vs rs) tt r (memory ns′ vs rs)
-  unfolding eval linked
-  link-first parent last child h f = writes parent childWord child (rw (eq-eqb last 0 h, linked)) f
+  -- A link writes two words, one after the other.
+  module _ (mid : List ℕ) where
+    pub link-first : (parent last child : ℕ) → last ≡ 0 → mid ≡ storedIn parent childWord child (r .state) ns → ns′ ≡ storedIn child parentWord parent (r .state) mid
+        → Does text tokens d (link parent last child) r (memory ns vs rs) tt r (memory ns′ vs rs)
+    unfolding eval linked
+    link-first parent last child h e f = acts (ap (done tt (r .state)) (rw (eq-eqb last 0 h) (stored-two parent childWord child child parent (r .state) ns mid ns′ vs rs e f)))
 
-  pub link-next : (parent last child : ℕ) → (last ≡ 0 → ⊥) → ns′ ≡ storedIn last nextWord child (r .state) ns
-      → Does text tokens d (link parent last child) r (memory ns vs rs) tt r (memory ns′ vs rs)
-  unfolding eval linked
-  link-next parent last child h f = writes last nextWord child (rw (ne-eqb last 0 h, linked)) f
+    pub link-next : (parent last child : ℕ) → (last ≡ 0 → ⊥) → mid ≡ storedIn last nextWord child (r .state) ns → ns′ ≡ storedIn child parentWord parent (r .state) mid
+        → Does text tokens d (link parent last child) r (memory ns vs rs) tt r (memory ns′ vs rs)
+    unfolding eval linked
+    link-next parent last child h e f = acts (ap (done tt (r .state)) (rw (ne-eqb last 0 h) (stored-two last nextWord child child parent (r .state) ns mid ns′ vs rs e f)))
 
 module _ {text tokens : List ℕ} {d : ℕ} {r : Reading} (ns vs rs : List ℕ) where
   pub kindOf-is : (n head kind : ℕ) → head ≡ wordIn n headWord (r .state) ns → kind ≡ nodeKind head → Does text tokens d (kindOf n) r (memory ns vs rs) kind r (memory ns vs rs)
@@ -116,13 +124,13 @@ module _ (s : State) (ns : List ℕ) where
   room-words h = leb-true (nodeWidth * s .nodes + nodeWidth) (length ns) (rw (lt-ltb (s .nodes) lastNode (room-number h)) at h)
 
 -- stores one after the other
-pub five-stores : (ns ws : List ℕ) (at : ℕ) (node : Node) → ws ≡ nodeWords node
-    → set (set (set (set (set ns at (getD ws 0 0)) (at + 1) (getD ws 1 0)) (at + 2) (getD ws 2 0)) (at + 3) (getD ws 3 0)) (at + 4) (getD ws 4 0)
+pub six-stores : (ns ws : List ℕ) (at : ℕ) (node : Node) → ws ≡ nodeWords node
+    → set (set (set (set (set (set ns at (getD ws 0 0)) (at + 1) (getD ws 1 0)) (at + 2) (getD ws 2 0)) (at + 3) (getD ws 3 0)) (at + 4) (getD ws 4 0)) (at + 5) (getD ws 5 0)
     ≡ sets ns at (nodeWords node)
-five-stores ns ws at node e = rw e (simp towards-suc)
+six-stores ns ws at node e = rw e (simp towards-suc)
 
 abbrev pub newNode : ℕ → ℕ → ℕ → Node
-newNode start kind payload = record { kind = kind; payload = payload; first = start; end = start; next = 0; child = 0 }
+newNode start kind payload = record { kind = kind; payload = payload; first = start; end = start; next = 0; child = 0; parent = 0 }
 
 module _ {text tokens : List ℕ} {d : ℕ} {r : Reading} (ns vs rs : List ℕ) (h : r .refusal ≡ 0) (start kind payload : ℕ) where
   pub alloc-full : (it : ℕ) → hasRoom (r .state) ns ≡ false → Does text tokens d (alloc start kind payload) r (memory ns vs rs) it (refusedAt r Refusal.NodesDontFit) (memory ns vs rs)

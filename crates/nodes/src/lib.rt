@@ -24,6 +24,8 @@ const NEXT: u32 = 3;
 
 const CHILD: u32 = 4;
 
+const PARENT: u32 = 5;
+
 // The number of a node is a word, so there is a last one.
 const LAST_NODE: u32 = 4294967295;
 
@@ -77,6 +79,7 @@ fn write_node(nodes: &mut [u32], n: u32, node: Node)
     nodes[at + 2] = w[2];
     nodes[at + 3] = w[3];
     nodes[at + 4] = w[4];
+    nodes[at + 5] = w[5];
 }
 
 // A node without children, closed where it starts, where there is room for it.
@@ -110,6 +113,7 @@ pub fn alloc(
         end: start,
         next: 0,
         child: 0,
+        parent: 0,
     };
     write_node(nodes, n, node);
     let cursor = state.cursor;
@@ -188,7 +192,7 @@ pub fn set_kind(
     s
 }
 
-// A node's next child: its first, or the next sibling of its last, which is 0 where it has none.
+// A node's next child: its first, or the next sibling of its last, which is 0 where it has none; it tells its parent.
 pub fn link(
     d: u32,
     s: Reading,
@@ -204,11 +208,14 @@ pub fn link(
     ensures { λ r. ⌜ Does (now (text .entry)) (now (tokens .entry)) d (link parent last child) s (memory (now (nodes .entry)) (now (values .entry)) (now (reports .entry))) tt r (memory (now (nodes .exit)) (now (values .exit)) (now (reports .exit))) ⌝ }
 {
     let state = s.state;
+    let mut from = last;
+    let mut word = NEXT;
     if last == 0 {
-        store(state, nodes, parent, CHILD, child);
-        return s;
+        from = parent;
+        word = CHILD;
     }
-    store(state, nodes, last, NEXT, child);
+    store(state, nodes, from, word, child);
+    store(state, nodes, child, PARENT, parent);
     s
 }
 

@@ -9,12 +9,12 @@ use libc::STDIN_FILENO;
 use plank::Outcome;
 
 // The words that are lent: what a script of 65,536 bytes takes at most, as argued in bindings/README.md. A token for each byte, and Eof;
-// three nodes for each byte, and File; two words of values for each; two reports for each, and one at Eof.
+// three nodes for each byte, and File; a word of values for each byte, and one; two reports for each, and one at Eof.
 const TOKENS: usize = 65537;
 
-const NODES: usize = 983045;
+const NODES: usize = 1179654;
 
-const VALUES: usize = 131072;
+const VALUES: usize = 65537;
 
 const REPORTS: usize = 393219;
 

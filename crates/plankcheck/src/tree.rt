@@ -23,9 +23,10 @@ fn node_at(nodes: &[u32], number: u32) -> Node {
             nodes[at + 2],
             nodes[at + 3],
             nodes[at + 4],
+            nodes[at + 5],
         ]);
     }
-    words::node_of([0, 0, 0, 0, 0])
+    words::node_of([0, 0, 0, 0, 0, 0])
 }
 
 // Where a token starts: at the end of the one before it.

@@ -4,7 +4,7 @@ use mathlib.Core.Logic.{_⊎_, inl, inr}
 use mathlib.Core.Option.{Option}
 use mathlib.Core.Option as Option
 use mathlib.Core.List.{List, [], _∷_}
-use Prim.Native.Nat.{ℕ, _<_}
+use Prim.Native.Nat.{ℕ}
 use native.Mathlib.Omega.{arith}
 use lib.ListN.{length, take}
 use Rattle.words.specs.Refusal
@@ -25,7 +25,7 @@ use Rattle.chart.specs.Errors.{NoErrors, derived-clean}
 use Rattle.tree.specs.Stored.{stored}
 use Rattle.tree.specs.Grown.{sizes}
 use Rattle.tree.specs.Holds.{file-held}
-use Rattle.tree.specs.Linked.{LinkedOnce, linked-once, Reached, all-reached}
+use Rattle.rising.specs.Parsed.{parsed-family}
 use Rattle.tree.specs.Rows.{Clean}
 use Rattle.agreement.specs.Sim.{Sim, gives, fails, sinks, Made, made}
 use Rattle.agreement.specs.Files.{FileRead, file-read, file-agrees}
@@ -52,14 +52,14 @@ depth-of (sinks {u}) e = (u, refl)
 
 -- A tree of the row beside what was parsed: no report, and the words hold it.
 held-by : {text tokens : List ℕ} {a b c nodes values reports : ℕ} {p : Parsed} {f : Fate ℕ} {o : Chart.Outcome} {t : Trees} → Outcome text tokens a b c p f → Sim (Made (FileRead text tokens)) f o → (o ≡ Chart.ok t []) ⊎ (o ≡ Chart.deep) → p .answer ≡ done (nodes ∷ values ∷ reports ∷ [])
-    → (reports ≡ 0) × (stored text tokens (p .words .nodes) (take values (p .words .values)) nodes ≡ Option.some t) × (sizes t ≡ nodes) × ((i : ℕ) → 0 < i → i < nodes → LinkedOnce (p .words .nodes) nodes i) × ((i : ℕ) → i < nodes → Reached (p .words .nodes) i)
+    → (reports ≡ 0) × (stored text tokens (p .words .nodes) (take values (p .words .values)) nodes ≡ Option.some t) × (sizes t ≡ nodes)
 unfolding sizes
 held-by {text} {tokens} {nodes = nodes} {values = values} {reports = reports} {t = t} (is-read {w = w} {m = m} x y) (gives (made (file-read {t = t₁} z b g))) (inl e) q =
     let n : nodes ≡ length (w .store) = cc in
     let v : values ≡ length (w .values) = cc in
     let r : reports ≡ 0 = cc in
     let tree : t ≡ t₁ ▸ none = cc in
-    (r, rw (n, v, y .words, tree) (file-held (x .plain) (x .links g) b), rw (n, tree) (omega (arith, b .size-is)), rw n (linked-once (x .links g) b), rw n (all-reached (x .links g) b))
+    (r, rw (n, v, y .words, tree) (file-held (x .plain) (x .links g) b), rw (n, tree) (omega (arith, b .size-is)))
 held-by (is-read x y) (gives (made (file-read z b g))) (inr e) q = absurd (let z : _≡_ {A = ℕ} 0 1 = cc in omega arith)
 held-by (has-reports h) fails (inl e) q = absurd (let z : _≡_ {A = ℕ} 0 1 = cc in omega arith)
 held-by (has-reports h) fails (inr e) q = absurd (let z : _≡_ {A = ℕ} 0 1 = cc in omega arith)
@@ -103,7 +103,7 @@ module _ (text : List ℕ) (lent n : ℕ) (e : lexed text lent ≡ done (n ∷ [
         go : {f : Fate ℕ} → Whole text tokens a b nodes values (parsed text tokens a b c .words) f → parsedA text tokens ≡ f → (t : Trees) × Derives file (row text tokens) [] t
         go (whole x y p h) r = let (t, o) = tree-of (parsing-agrees (given-clean text lent n e p h)) r in (t, derived maxDepth (row text tokens) t o)
 
-    held : (t : Trees) → Derived text t → (reports ≡ 0) × (stored text tokens (parsed text tokens a b c .words .nodes) (take values (parsed text tokens a b c .words .values)) nodes ≡ Option.some t) × (sizes t ≡ nodes) × ((i : ℕ) → 0 < i → i < nodes → LinkedOnce (parsed text tokens a b c .words .nodes) nodes i) × ((i : ℕ) → i < nodes → Reached (parsed text tokens a b c .words .nodes) i)
+    held : (t : Trees) → Derived text t → (reports ≡ 0) × (stored text tokens (parsed text tokens a b c .words .nodes) (take values (parsed text tokens a b c .words .values)) nodes ≡ Option.some t) × (sizes t ≡ nodes)
     held t d =
         let d₁ : Derives file (row text tokens) [] t = rw same-rows d in
         held-by (simulates text tokens a b c) (parsing-agrees (row-clean text tokens (derived-clean d₁))) (complete (row text tokens) t d₁ maxDepth) q
@@ -115,8 +115,7 @@ module _ (text : List ℕ) (lent n : ℕ) (e : lexed text lent ≡ done (n ∷ [
           one = λ t u. one-tree (rowOf text) t u;
           tree = λ t d. held t d .1;
           all = λ t d. held t d .2;
-          linked = λ t d. held t d .3;
-          reached = λ t d. held t d .4;
+          family = parsed-family text tokens a b c q;
         }
 
 -- Demand 3 of reading, whatever slices are lent: where it doesn't refuse.

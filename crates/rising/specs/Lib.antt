@@ -1,3 +1,6 @@
+pub mod Linked
+pub mod Weights
+pub mod Forest
 pub mod Sound
 pub mod Rules
 pub mod Steps
@@ -5,4 +8,5 @@ pub mod Programs
 pub mod Readers
 pub mod Statements
 pub mod Files
+pub mod Family
 pub mod Parsed

@@ -40,7 +40,7 @@ pub record Fits (n j v count : ℕ) : Type 0 where
   pub next : j ≡ nextWord → Next n count v
   pub child : j ≡ childWord → v < count
 
-module _ {w : List ℕ} {count : ℕ} (n j v : ℕ) (l : n < count) (lj : j < 5) (f : Fits n j v count) (s : Sound w count) where
+module _ {w : List ℕ} {count : ℕ} (n j v : ℕ) (l : n < count) (lj : j < nodeWidth) (f : Fits n j v count) (s : Sound w count) where
   abbrev new : List ℕ
   new = set w (place n j) v
 
@@ -48,7 +48,7 @@ module _ {w : List ℕ} {count : ℕ} (n j v : ℕ) (l : n < count) (lj : j < 5)
   abbrev Read : ℕ → ℕ → Type 0
   Read i h = (getD new (place i h) 0 ≡ getD w (place i h) 0) ⊎ ((i ≡ n) × (h ≡ j) × (getD new (place i h) 0 ≡ v))
 
-  read : (i h : ℕ) → i < count → h < 5 → Read i h
+  read : (i h : ℕ) → i < count → h < nodeWidth → Read i h
   read i h li lh = go (ℕ-discrete (place i h) (place n j))
     where
       go : Dec (place i h ≡ place n j) → Read i h
@@ -79,17 +79,17 @@ module _ {w : List ℕ} {count : ℕ} (n j v : ℕ) (l : n < count) (lj : j < 5)
 
 -- A node is made.
 module _ {w : List ℕ} {count : ℕ} (start kind payload : ℕ) (k : kind ≤ Node.Error) (fits : nodeWidth * count + nodeWidth ≤ length w) (s : Sound w count) where
-  abbrev five : List ℕ
-  five = nodeWords (record { kind = kind; payload = payload; first = start; end = start; next = 0; child = 0 })
+  abbrev newWords : List ℕ
+  newWords = nodeWords (record { kind = kind; payload = payload; first = start; end = start; next = 0; child = 0; parent = 0 })
 
   abbrev longer : List ℕ
-  longer = sets w (nodeWidth * count) five
+  longer = sets w (nodeWidth * count) newWords
 
-  old : (i h : ℕ) → i < count → h < 5 → getD longer (place i h) 0 ≡ getD w (place i h) 0
-  old i h l g = sets-before five w (nodeWidth * count) (place i h) (omega arith)
+  old : (i h : ℕ) → i < count → h < nodeWidth → getD longer (place i h) 0 ≡ getD w (place i h) 0
+  old i h l g = sets-before newWords w (nodeWidth * count) (place i h) (omega arith)
 
-  made : (h : ℕ) → h < 5 → getD longer (place count h) 0 ≡ getD five h 0
-  made h g = sets-in five w (nodeWidth * count) h g fits
+  made : (h : ℕ) → h < nodeWidth → getD longer (place count h) 0 ≡ getD newWords h 0
+  made h g = sets-in newWords w (nodeWidth * count) h g fits
 
   wider : {i n : ℕ} → Next i count n → Next i (count + 1) n
   wider (last e) = last e

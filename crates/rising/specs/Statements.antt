@@ -2,14 +2,16 @@
 use mathlib.Core.Path.{refl}
 use mathlib.Core.Bool.{Bool, true}
 use mathlib.Core.Option.{Option}
+use mathlib.Core.List.{List, _∷_}
 use Prim.Native.Nat.{ℕ, _≤_, _<_}
 use native.Mathlib.Omega.{arith}
 use Rattle.words.specs.Node
 use Rattle.definition.specs.declared.Unfinished.{Unfinished}
 use Rattle.definition.specs.Prog.{Prog, Then}
 use Rattle.definition.specs.Statements.{whileStmt, statement, endExprOrStmt, endExpr, nothing as nothing′, StmtResult, Body, body, tryParseWhile, parseLetStmt, returnStmt, letStmt, comptimeStmt, assignStmt, exprStmt, tryParseStmt, endExprTurn, stmtTurn, parseBlock}
-use Rattle.rising.specs.Rules.{Ok, Fresh, Maybe, Goes, goes, ends, ok-then, then-calm, ok-give, ok-branch, calm-peek, calm-pass, calm-position, calm-before, calm-emit, calm-kindOf, one, later}
-use Rattle.rising.specs.Steps.{Open, open′, then-alloc, then-alloc-here, then-push, then-close, then-fresh, then-maybe, then-loop, ok-fresh, fresh, maybe, calm-give, calm-branch, calm-updateKind, fresh-block, close-new, give-newer, push-open, give-open, Waits, waits-on, then-option, then-closing, Both, both-idle, both-waits}
+use Rattle.rising.specs.Forest.{Slot, opened, single}
+use Rattle.rising.specs.Rules.{Ok, Fresh, Maybe, Goes, goes, ends, turned, ok-swap, ok-then, then-calm, ok-give, ok-branch, calm-peek, calm-pass, calm-position, calm-before, calm-emit, calm-kindOf, one, later}
+use Rattle.rising.specs.Steps.{Open, open′, then-alloc, then-alloc-here, then-push, then-close, then-fresh, then-maybe, then-loop, ok-fresh, fresh, maybe, calm-give, calm-branch, calm-updateKind, fresh-block, close-new, give-newer, push-open, give-open, Waits, waits-on, then-option-below, then-push-list, then-closing, pair, Both, both-idle, both-waits}
 use Rattle.rising.specs.Programs.{check-calm, eat-calm, eof-calm, emitUnexpected-calm, skipUntilRecoveryToken-calm, expect-calm, expectIdent-fresh, tryParseExpr-maybe, parseExpr-fresh, blockHere-fresh, ok-eats}
 
 -- A statement that was read, and how it ends.
@@ -19,11 +21,18 @@ pub data Result (b : ℕ) : StmtResult → ℕ → Type 0 where
   is-end : {a d : ℕ} → b ≤ a → a < d → Result b (endExpr a) d
   is-none : {d : ℕ} → Result b nothing′ d
 
-then-result : {A : Type 0} {b c : ℕ} {Q : A → ℕ → Type 0} {p : Prog StmtResult} {f : StmtResult → Prog A} → Ok c (Result b) p → ((d : ℕ) → c ≤ d → Ok d Q (f nothing′)) → ((a d : ℕ) → c ≤ d → b ≤ a → a < d → Ok d Q (f (statement a)))
-    → ((a d : ℕ) → c ≤ d → b ≤ a → a < d → Ok d Q (f (endExprOrStmt a))) → ((a d : ℕ) → c ≤ d → b ≤ a → a < d → Ok d Q (f (endExpr a))) → Ok c Q (Then p f)
-then-result {A} {b} {c} {Q} {p} {f} x h i j k = ok-then x go
+-- What is held then.
+abbrev result : List Slot → StmtResult → List Slot
+result H nothing′ = H
+result H (statement a) = single a ∷ H
+result H (endExprOrStmt a) = single a ∷ H
+result H (endExpr a) = single a ∷ H
+
+then-result : {A : Type 0} {b c : ℕ} {H : List Slot} {K : A → List Slot} {Q : A → ℕ → Type 0} {p : Prog StmtResult} {f : StmtResult → Prog A} → Ok c H (result H) (Result b) p → ((d : ℕ) → c ≤ d → Ok d H K Q (f nothing′)) → ((a d : ℕ) → c ≤ d → b ≤ a → a < d → Ok d (single a ∷ H) K Q (f (statement a)))
+    → ((a d : ℕ) → c ≤ d → b ≤ a → a < d → Ok d (single a ∷ H) K Q (f (endExprOrStmt a))) → ((a d : ℕ) → c ≤ d → b ≤ a → a < d → Ok d (single a ∷ H) K Q (f (endExpr a))) → Ok c H K Q (Then p f)
+then-result {A} {b} {c} {H} {K} {Q} {p} {f} x h i j k = ok-then x go
   where
-    go : (r : StmtResult) (d : ℕ) → c ≤ d → Result b r d → Ok d Q (f r)
+    go : (r : StmtResult) (d : ℕ) → c ≤ d → Result b r d → Ok d (result H r) K Q (f r)
     go nothing′ d l is-none = h d l
     go (statement a) d l (is-statement m n) = i a d l m n
     go (endExprOrStmt a) d l (is-either m n) = j a d l m n
@@ -32,7 +41,7 @@ then-result {A} {b} {c} {Q} {p} {f} x h i j k = ok-then x go
 whileStmt-fresh : (start kind : ℕ) → kind ≤ Node.Error → Fresh (whileStmt start kind)
 unfolding whileStmt
 whileStmt-fresh start kind k =
-    fresh (λ c. then-alloc _ _ _ k (λ u un uz.
+    fresh (λ c H. then-alloc _ _ _ k (λ u un uz.
     then-fresh (parseExpr-fresh _) (λ a ad al ah.
     then-push u a (one uz) (omega arith) (λ v vn vz.
     then-fresh blockHere-fresh (λ b bd bl bh.
@@ -42,7 +51,7 @@ whileStmt-fresh start kind k =
 tryParseWhile-maybe : (start : ℕ) → Maybe (tryParseWhile start)
 unfolding tryParseWhile
 tryParseWhile-maybe start =
-    maybe (λ c. then-calm (eat-calm _) (λ _.
+    maybe (λ c H. then-calm (eat-calm _) (λ _.
     ok-branch (
     then-calm (expect-calm _) (λ _.
     then-fresh (whileStmt-fresh start _ (omega arith)) (λ a ad al ah.
@@ -52,7 +61,7 @@ tryParseWhile-maybe start =
 parseLetStmt-fresh : (start : ℕ) (comptime : Bool) → Fresh (parseLetStmt start comptime)
 unfolding parseLetStmt
 parseLetStmt-fresh start comptime =
-    fresh (λ c. then-calm (eat-calm _) (λ _.
+    fresh (λ c H. then-calm (eat-calm _) (λ _.
     then-alloc _ _ _ (omega arith) (λ u un uz.
     then-fresh expectIdent-fresh (λ a ad al ah.
     then-push u a (one uz) (omega arith) (λ v vn vz.
@@ -69,7 +78,7 @@ parseLetStmt-fresh start comptime =
     then-calm (expect-calm _) (λ _.
     close-new y (omega arith) (omega arith)))))))))))))
 
-returnStmt-ok : {b c : ℕ} (start : ℕ) → b ≤ c → Ok c (Result b) (returnStmt start)
+returnStmt-ok : {b c : ℕ} {H : List Slot} (start : ℕ) → b ≤ c → Ok c H (result H) (Result b) (returnStmt start)
 unfolding returnStmt
 returnStmt-ok start l =
     then-alloc _ _ _ (omega arith) (λ u un uz.
@@ -79,11 +88,11 @@ returnStmt-ok start l =
     then-close v (
     ok-give (is-statement (omega arith) (omega arith)))))))
 
-letStmt-ok : {b c : ℕ} (start : ℕ) (comptime : Bool) → b ≤ c → Ok c (Result b) (letStmt start comptime)
+letStmt-ok : {b c : ℕ} {H : List Slot} (start : ℕ) (comptime : Bool) → b ≤ c → Ok c H (result H) (Result b) (letStmt start comptime)
 unfolding letStmt
 letStmt-ok start comptime l = then-fresh (parseLetStmt-fresh start comptime) (λ a ad al ah. ok-give (is-statement (omega arith) (omega arith)))
 
-comptimeStmt-ok : {b c : ℕ} (start : ℕ) → b ≤ c → Ok c (Result b) (comptimeStmt start)
+comptimeStmt-ok : {b c : ℕ} {H : List Slot} (start : ℕ) → b ≤ c → Ok c H (result H) (Result b) (comptimeStmt start)
 unfolding comptimeStmt
 comptimeStmt-ok start l =
     then-calm (check-calm _) (λ _.
@@ -104,18 +113,18 @@ comptimeStmt-ok start l =
     then-close u (
     ok-give (is-statement (omega arith) (omega arith))))))))))))
 
-assignStmt-ok : {b c : ℕ} (start expr : ℕ) → expr < c → b ≤ c → Ok c (Result b) (assignStmt start expr)
+assignStmt-ok : {b c : ℕ} {H : List Slot} (start expr : ℕ) → expr < c → b ≤ c → Ok c (single expr ∷ H) (result H) (Result b) (assignStmt start expr)
 unfolding assignStmt
 assignStmt-ok start expr h l =
     then-alloc _ _ _ (omega arith) (λ u un uz.
-    then-push u expr (one uz) (omega arith) (λ v vn vz.
+    ok-swap (then-push u expr (one uz) (omega arith) (λ v vn vz.
     then-fresh (parseExpr-fresh _) (λ a ad al ah.
     then-push v a (later (omega arith)) (omega arith) (λ w wn wz.
     then-calm (expect-calm _) (λ _.
     then-close w (
-    ok-give (is-statement (omega arith) (omega arith))))))))
+    ok-give (is-statement (omega arith) (omega arith)))))))))
 
-exprStmt-ok : {b c : ℕ} (start : ℕ) → b ≤ c → Ok c (Result b) (exprStmt start)
+exprStmt-ok : {b c : ℕ} {H : List Slot} (start : ℕ) → b ≤ c → Ok c H (result H) (Result b) (exprStmt start)
 unfolding exprStmt
 exprStmt-ok start l =
     then-maybe (tryParseExpr-maybe _) (λ a ad al ah.
@@ -131,7 +140,7 @@ exprStmt-ok start l =
     (ok-give (is-either (omega arith) (omega arith)))))))))
     (λ ae am. ok-give is-none)
 
-tryParseStmt-ok : {b c : ℕ} → b ≤ c → Ok c (Result b) tryParseStmt
+tryParseStmt-ok : {b c : ℕ} {H : List Slot} → b ≤ c → Ok c H (result H) (Result b) tryParseStmt
 unfolding tryParseStmt
 tryParseStmt-ok l =
     then-calm calm-position (λ _.
@@ -146,42 +155,42 @@ tryParseStmt-ok l =
     letStmt-ok _ _ (omega arith))
     (exprStmt-ok _ (omega arith)))))))))
 
-endExprTurn-ok : {n c : ℕ} (list : Unfinished) (expr : ℕ) → Open n list c → n < expr → list .last < expr → expr < c → Ok c (Goes (λ (b : Body) d. Both n (b .list) (b .closing) d)) (endExprTurn list expr)
+endExprTurn-ok : {n c : ℕ} {H : List Slot} (list : Unfinished) (expr : ℕ) → Open n list c → n < expr → list .last < expr → expr < c → Ok c (single expr ∷ (opened list ∷ H)) (turned (λ (b : Body). pair (b .list) (b .closing) H)) (Goes (λ (b : Body) d. Both n (b .list) (b .closing) d)) (endExprTurn list expr)
 unfolding endExprTurn
 endExprTurn-ok list expr i l h g =
     then-calm (check-calm _) (λ _.
     then-calm eof-calm (λ _.
     ok-branch (
-    ok-give (ends (both-waits i l h g)))
+    ok-swap (ok-give (ends (both-waits i l h g))))
     (then-calm calm-before (λ _.
     then-calm calm-emit (λ _.
     then-push list expr (later (omega arith)) (omega arith) (λ v vn vz.
     ok-give (goes (both-idle (open′ (omega arith) (omega arith) (omega arith))))))))))
 
-stmtTurn-ok : {n c : ℕ} (list : Unfinished) (o : Option ℕ) → Open n list c → Waits n list o c → Ok c (Goes (λ (b : Body) d. Both n (b .list) (b .closing) d)) (stmtTurn (body list o))
+stmtTurn-ok : {n c : ℕ} {H : List Slot} (list : Unfinished) (o : Option ℕ) → Open n list c → Waits n list o c → Ok c (pair list o H) (turned (λ (b : Body). pair (b .list) (b .closing) H)) (Goes (λ (b : Body) d. Both n (b .list) (b .closing) d)) (stmtTurn (body list o))
 unfolding stmtTurn
 stmtTurn-ok {c =
     c} list o i w = then-calm (check-calm _) (λ _.
     ok-branch (ok-give (ends (record { list = i; rest = w })))
     (then-result (tryParseStmt-ok {b = c} (omega arith))
     (λ d l. then-calm emitUnexpected-calm (λ _. ok-give (ends (record { list = (open′ (omega arith) (omega arith) (omega arith)); rest = waits-on w l }))))
-    (λ a d l h g. then-option list o w (i .last) l (λ v vn vz.
+    (λ a d l h g. then-option-below list o w (i .last) l (λ v vn vz.
     then-push v a (later (omega arith)) (omega arith) (λ x xn xz.
     ok-give (goes (both-idle (open′ (omega arith) (omega arith) (omega arith)))))))
-    (λ a d l h g. then-option list o w (i .last) l (λ v vn vz.
-    ok-give (goes (both-waits (open′ (omega arith) (omega arith) (omega arith)) (omega arith) (omega arith) (omega arith)))))
-    (λ a d l h g. then-option list o w (i .last) l (λ v vn vz.
+    (λ a d l h g. then-option-below list o w (i .last) l (λ v vn vz.
+    ok-swap (ok-give (goes (both-waits (open′ (omega arith) (omega arith) (omega arith)) (omega arith) (omega arith) (omega arith))))))
+    (λ a d l h g. then-option-below list o w (i .last) l (λ v vn vz.
     endExprTurn-ok v a (open′ (omega arith) (omega arith) (omega arith)) (omega arith) (omega arith) (omega arith)))))
 
 pub parseBlock-fresh : (start kind : ℕ) → kind ≤ Node.Error → Fresh (parseBlock start kind)
 unfolding parseBlock
 parseBlock-fresh start kind k =
-    fresh (λ c. then-alloc _ _ _ k (λ u un uz.
+    fresh (λ c H. then-alloc _ _ _ k (λ u un uz.
     then-calm (expect-calm _) (λ _.
     then-alloc-here _ _ (omega arith) (λ l ln lz.
-    then-loop (λ (b : Body) d. Both (l .node) (b .list) (b .closing) d) (λ y d g i. stmtTurn-ok (y .list) (y .closing) (i .list) (i .rest)) (both-idle (open′ refl (omega arith) (omega arith))) (λ e ed el ei.
+    then-loop (λ (b : Body) d. Both (l .node) (b .list) (b .closing) d) (λ (b : Body) G. pair (b .list) (b .closing) G) (λ y d g i. stmtTurn-ok (y .list) (y .closing) (i .list) (i .rest)) (both-idle (open′ refl (omega arith) (omega arith))) (λ e ed el ei.
     then-close (e .list) (
-    then-push u (e .list .node) (one uz) (omega arith) (λ u1 u1n u1z.
+    then-push-list H u (e .list .node) (e .closing) (one uz) (omega arith) (λ u1 u1n u1z.
     then-closing u1 _ (e .closing) (ei .rest) (omega arith) (λ v vn.
     then-calm (expect-calm _) (λ _.
     close-new v (omega arith) (omega arith))))))))))

@@ -2,6 +2,5 @@ pub mod Stored
 pub mod Grown
 pub mod Values
 pub mod Holds
-pub mod Linked
 pub mod Rows
 pub mod Examples

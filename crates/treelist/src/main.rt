@@ -1,5 +1,5 @@
 // Lists the tree of the text on standard input: the numbers of nodes and reports, then for each node its number, kind, payload,
-// first token, end token, next sibling and first child.
+// first token, end token, next sibling, first child and parent.
 ghost use Prim.Native.Nat.{_+_, _≤_};
 ghost use lib.ListN.{length};
 use libc::STDIN_FILENO;
@@ -30,12 +30,13 @@ fn print_node(n: u32, node: Node) {
     print_number(b"", node.first, b" ");
     print_number(b"", node.end, b" ");
     print_number(b"", node.next, b" ");
-    print_number(b"", node.child, b"\n");
+    print_number(b"", node.child, b" ");
+    print_number(b"", node.parent, b"\n");
 }
 
 // The node that begins at a word.
 fn node_at(nodes: &[u32], at: usize) -> Node
-    requires { ⌜ at + 5 ≤ length (now nodes) ⌝ }
+    requires { ⌜ at + 6 ≤ length (now nodes) ⌝ }
 {
     words::node_of([
         nodes[at],
@@ -43,6 +44,7 @@ fn node_at(nodes: &[u32], at: usize) -> Node
         nodes[at + 2],
         nodes[at + 3],
         nodes[at + 4],
+        nodes[at + 5],
     ])
 }
 

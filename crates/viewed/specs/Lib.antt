@@ -9,3 +9,7 @@ pub mod Stands
 pub mod Answers
 pub mod Proved
 pub mod Unrefused
+pub mod Walked
+pub mod Climbs
+pub mod Descends
+pub mod Walks

@@ -9,8 +9,8 @@ use Rattle.words.specs.Node
 use Rattle.words.specs.Answer.{Answer, done, refused}
 use Rattle.words.specs.Words.{nodeWidth, nodeKind}
 use Rattle.lexer.specs.Lex.{lexed, lexedWords}
-use Rattle.definition.specs.Prog.{headWord, nextWord, childWord}
-use Rattle.definition.specs.Encodes.{next}
+use Rattle.definition.specs.Prog.{headWord, nextWord, childWord, parentWord}
+use Rattle.definition.specs.Encodes.{place, next, parentOf}
 use Rattle.rising.specs.Sound.{Sound, Next, last, rises}
 use Rattle.rising.specs.Parsed.{parsed-sound}
 use Rattle.reader.specs.Read.{Lent, after, parsing, afterLexing, reads}
@@ -18,10 +18,18 @@ use Rattle.looking.specs.View
 use Rattle.looking.specs.View.{is, look, nodeAt}
 use Rattle.looking.specs.Laws as Laws
 
-module _ (ns : List ℕ) (count : ℕ) (sound : Sound ns count) where
-  next-same : (n : ℕ) → nodeAt ns n .next ≡ next ns n
-  next-same n = getD-drop (nodeWidth * n) ns nextWord 0
+-- A node's links, as they are looked at and as they stand in the words.
+module _ (ns : List ℕ) (n : ℕ) where
+  pub next-same : nodeAt ns n .next ≡ next ns n
+  next-same = getD-drop (nodeWidth * n) ns nextWord 0
 
+  pub child-same : nodeAt ns n .child ≡ getD ns (place n childWord) 0
+  child-same = getD-drop (nodeWidth * n) ns childWord 0
+
+  pub parent-same : nodeAt ns n .parent ≡ parentOf ns n
+  parent-same = getD-drop (nodeWidth * n) ns parentWord 0
+
+module _ (ns : List ℕ) (count : ℕ) (sound : Sound ns count) where
   pub looked : (n : ℕ) → n < count → look ns n ≡ is (nodeAt ns n)
   looked n l = sym (Laws.looked ns n (omega (arith, sound .room)) (nodeAt ns n) refl _ (go (sound .nexts n l)))
     where
@@ -31,14 +39,14 @@ module _ (ns : List ℕ) (count : ℕ) (sound : Sound ns count) where
           rw e (sound .kinds n l)
 
       go : Next n count (next ns n) → is (nodeAt ns n) ≡ View.sound n (nodeAt ns n)
-      go (last z) = Laws.last n (nodeAt ns n) kind (next-same n ∙ z)
-      go (rises h g) = Laws.next-rises n (nodeAt ns n) kind (omega (arith, next-same n)) (omega (arith, next-same n))
+      go (last z) = Laws.last n (nodeAt ns n) kind (next-same ns n ∙ z)
+      go (rises h g) = Laws.next-rises n (nodeAt ns n) kind (omega (arith, next-same ns n)) (omega (arith, next-same ns n))
 
   pub child-inside : (n : ℕ) → n < count → nodeAt ns n .child < count
-  child-inside n l = rw (getD-drop (nodeWidth * n) ns childWord 0) (sound .firsts n l)
+  child-inside n l = rw (child-same ns n) (sound .firsts n l)
 
   pub next-inside : (n : ℕ) → n < count → nodeAt ns n .next < count
-  next-inside n l = rw (next-same n) (go (sound .nexts n l))
+  next-inside n l = rw (next-same ns n) (go (sound .nexts n l))
     where
       go : Next n count (next ns n) → next ns n < count
       go (last e) = omega arith

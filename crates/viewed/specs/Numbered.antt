@@ -1,5 +1,6 @@
 -- The chart's trees with the number that each node has in the words. So that a view's answer can be compared: a tree may have two alike
 -- parts, and the answer is to be the one, not the other.
+use mathlib.Core.Path.{_≡_}
 use mathlib.Core.Bool.{cond}
 use mathlib.Core.List.{List, [], _∷_}
 use mathlib.Core.Option.{Option}
@@ -60,6 +61,11 @@ children (place l k v cs us) = cs
 
 abbrev pub after : Place → Row
 after (place l k v cs us) = us
+
+-- A child of a node: the first one, and each neighbour after a child.
+pub data ChildOf (p : Place) : Place → Type 0 where
+  eldest : {q : Place} → children p ≡ from q → ChildOf p q
+  younger : {q r : Place} → ChildOf p q → after q ≡ from r → ChildOf p r
 
 -- The flags or the operator, or where name, number or bytes are found.
 abbrev pub saying : Value → ℕ → ℕ

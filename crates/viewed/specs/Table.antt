@@ -1,4 +1,5 @@
--- Each accessor is a question: beside it, the one that it asks. So what `Viewed` says of questions it says of every accessor.
+-- Each accessor but `parent` and the walks (`Walked`) is a question: beside it, the one that it asks. So what `Viewed` says of questions it
+-- says of these accessors.
 use mathlib.Core.Path.{_≡_, refl, sym, _∙_, ap, subst}
 use mathlib.Core.List.{List, [], _∷_}
 use Prim.Native.Nat.{ℕ, _+_, _-_}

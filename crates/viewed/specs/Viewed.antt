@@ -7,9 +7,10 @@ use lib.ListN.{take}
 use Rattle.words.specs.Answer.{done}
 use Rattle.chart.specs.Tree.{Trees}
 use Rattle.tree.specs.Stored.{said}
+use Rattle.definition.specs.Encodes.{parentOf}
 use Rattle.reader.specs.Read.{Read}
 use Rattle.reader.specs.Demand.{Derived}
-use Rattle.viewed.specs.Numbered.{Place, from, bare, Within, label, kind, value, payload}
+use Rattle.viewed.specs.Numbered.{Place, from, bare, Within, ChildOf, label, kind, value, payload}
 use Rattle.looking.specs.View.{Seen, is, none}
 use Rattle.viewed.specs.Query.{Sort, node, number, Query, OnWords, onWords, onTree, answer}
 use Rattle.viewed.specs.Query as Query
@@ -24,6 +25,8 @@ pub record Viewed (text tokens nodes values : List ℕ) (count : ℕ) (t : Trees
   -- Every counted node has its place, and one only.
   pub all : (n : ℕ) → n < count → (p : Place) × Within root p × (label p .number ≡ n)
   pub one : (p q : Place) → Within root p → Within root q → label p .number ≡ label q .number → p ≡ q
+  -- The parent that a node tells is its parent in the tree: "A node gets a sixth word, its parent" (01, W3).
+  pub parents : (p q : Place) → Within root p → ChildOf p q → parentOf nodes (label q .number) ≡ label p .number
   -- A payload leads to what the tree says there: a name, a number or bytes.
   pub says : (p : Place) → Within root p → said text tokens values (kind p) (payload p) ≡ Option.some (value p)
   pub views : (p : Place) → Within root p → {s : Sort} (q : Query s) → onWords nodes q (label p .number) ≡ answer s (onTree q p)

@@ -1,1 +1,1 @@
-// What views give of the words that reading makes: definitions and laws, no code that runs.
+// What views and walks give of the words that reading makes: definitions and laws, no code that runs.

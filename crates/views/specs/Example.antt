@@ -8,13 +8,13 @@ use Rattle.looking.specs.View.{Seen, is, none, refused, andThen, look, sound, o
 use Rattle.expr.specs.Expr.{peel, asked, whole}
 use Rattle.views.specs.Declarations.{fileDef, fileDefCount, constDeclName, constDeclType, constDeclAssign}
 
--- head, first token, end token, next sibling, first child
+-- head, first token, end token, next sibling, first child, parent
 abbrev nodes : List ℕ
 nodes =
-    0 ∷ 0 ∷ 8 ∷ 0 ∷ 1 ∷
-    67108864 ∷ 0 ∷ 8 ∷ 0 ∷ 2 ∷
-    2415919106 ∷ 2 ∷ 3 ∷ 3 ∷ 0 ∷
-    2214592512 ∷ 6 ∷ 7 ∷ 0 ∷ 0 ∷ []
+    0 ∷ 0 ∷ 8 ∷ 0 ∷ 1 ∷ 0 ∷
+    67108864 ∷ 0 ∷ 8 ∷ 0 ∷ 2 ∷ 0 ∷
+    2415919106 ∷ 2 ∷ 3 ∷ 3 ∷ 0 ∷ 1 ∷
+    2214592512 ∷ 6 ∷ 7 ∷ 0 ∷ 0 ∷ 1 ∷ []
 
 abbrev answers : List (Seen ℕ)
 answers =

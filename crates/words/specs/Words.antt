@@ -35,12 +35,13 @@ nodeKind w = high 26 w
 abbrev pub nodePayload : ℕ → ℕ
 nodePayload w = low 26 w
 
--- "Node, five words: top 6 bits the kind .. with a 26-bit payload; first token; end token; next sibling; first child."
+-- "Node, five words: top 6 bits the kind .. with a 26-bit payload; first token; end token; next sibling; first child." "A node gets a sixth word,
+-- its parent" (01, W3).
 abbrev pub nodeWidth : ℕ
-nodeWidth = 5
+nodeWidth = 6
 
 abbrev pub nodeWords : Node → List ℕ
-nodeWords n = nodeHead (n .kind) (n .payload) ∷ n .first ∷ n .end ∷ n .next ∷ n .child ∷ []
+nodeWords n = nodeHead (n .kind) (n .payload) ∷ n .first ∷ n .end ∷ n .next ∷ n .child ∷ n .parent ∷ []
 
 -- The node that a list of words begins with; a word past the end is 0.
 abbrev pub nodeOf : List ℕ → Node
@@ -52,6 +53,7 @@ nodeOf ws =
       end = getD ws 2 0;
       next = getD ws 3 0;
       child = getD ws 4 0;
+      parent = getD ws 5 0;
     }
 
 -- Value, first word: "top 2 bits 1 for a number, 2 for a string; low 30 the limb or byte count".

@@ -98,6 +98,7 @@ pub fn node_words(n: Node) -> [u32; NODE_WIDTH]
         n.end,
         n.next,
         n.child,
+        n.parent,
     ]
 }
 
@@ -111,6 +112,7 @@ pub fn node_of(w: [u32; NODE_WIDTH]) -> Node
         end: w[2],
         next: w[3],
         child: w[4],
+        parent: w[5],
     }
 }
 

@@ -101,7 +101,7 @@ pub const FIELD_ASSIGN: u32 = 48;
 pub const ERROR: u32 = 49;
 
 // The words of one node.
-pub const NODE_WIDTH: usize = 5;
+pub const NODE_WIDTH: usize = 6;
 
 pub struct Node {
     pub kind: u32,
@@ -112,4 +112,6 @@ pub struct Node {
     // The next sibling and the first child; 0 is none, as File is nobody's child.
     pub next: u32,
     pub child: u32,
+    // The node whose child it is; 0 of File, and where it is nobody's.
+    pub parent: u32,
 }

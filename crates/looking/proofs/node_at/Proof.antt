@@ -50,6 +50,15 @@ mul-t20 c = search needs
 shared-slice-read-t22 : tie.Need-shared-slice-read-t22
 shared-slice-read-t22 c = search needs
 
+add-t23 : tie.Need-add-t23
+add-t23 c = search needs
+
+mul-t24 : tie.Need-mul-t24
+mul-t24 c = search needs
+
+shared-slice-read-t26 : tie.Need-shared-slice-read-t26
+shared-slice-read-t26 c = search needs
+
 node-of-requires : tie.Need-node-of-requires
 node-of-requires c κs = search needs
 
@@ -75,5 +84,8 @@ node-at-spec =
     add-t19
     mul-t20
     shared-slice-read-t22
+    add-t23
+    mul-t24
+    shared-slice-read-t26
     node-of-requires
     returns)

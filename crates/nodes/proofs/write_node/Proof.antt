@@ -1,6 +1,6 @@
 -- `write_node` meets its contract.
 use lib.ListN.{length-set}
-use Rattle.nodes.specs.Laws.{five-stores}
+use Rattle.nodes.specs.Laws.{six-stores}
 use borrow.Author.Needs.{needs}
 use native.Mathlib.Omega.{arith}
 use Rattle.nodes.proofs.write_node.Statement.{statement}
@@ -69,11 +69,23 @@ mul-nodes-5 c = search needs
 slice-write-nodes-5 : tie.Need-slice-write-nodes-5
 slice-write-nodes-5 c = simp length-set (omega (arith, c .before .before .pre))
 
+array-read-nodes-6 : tie.Need-array-read-nodes-6
+array-read-nodes-6 c = search needs
+
+add-nodes-5 : tie.Need-add-nodes-5
+add-nodes-5 c = search needs
+
+mul-nodes-6 : tie.Need-mul-nodes-6
+mul-nodes-6 c = search needs
+
+slice-write-nodes-6 : tie.Need-slice-write-nodes-6
+slice-write-nodes-6 c = simp length-set (omega (arith, c .before .before .pre))
+
 same-length : tie.Need-same-length
 same-length c = simp length-set
 
 returns : tie.Need-returns
-returns c = five-stores (c .before .before .args .nodes .now) (c .node-words .result) _ (c .before .before .args .node) (c .node-words .ensures)
+returns c = six-stores (c .before .before .args .nodes .now) (c .node-words .result) _ (c .before .before .args .node) (c .node-words .ensures)
 
 pub write-node-spec : {M : Type 1} → statement M
 write-node-spec =
@@ -100,5 +112,9 @@ write-node-spec =
     add-nodes-4
     mul-nodes-5
     slice-write-nodes-5
+    array-read-nodes-6
+    add-nodes-5
+    mul-nodes-6
+    slice-write-nodes-6
     same-length
     returns)

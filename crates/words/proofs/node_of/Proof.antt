@@ -27,6 +27,9 @@ array-read-t19 c = search needs
 array-read-t22 : tie.Need-array-read-t22
 array-read-t22 c = search needs
 
+array-read-t25 : tie.Need-array-read-t25
+array-read-t25 c = search needs
+
 returns : tie.Need-returns
 returns c = cc
 
@@ -42,4 +45,5 @@ node-of-spec =
     array-read-t16
     array-read-t19
     array-read-t22
+    array-read-t25
     returns)
