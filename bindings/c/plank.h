@@ -16,7 +16,7 @@
  *
  * Who owns what: the caller owns all memory. The library allocates nothing, keeps no pointer after it returns, has no
  * state, and may be called from several threads at once. A text is only read; it needs no 0 at its end. Reading the
- * deepest texts takes 999 KB of stack, as measured: give a thread that reads 1 MiB or more.
+ * deepest texts takes 1,010 KB of stack, as measured: give a thread that reads 1 MiB or more.
  *
  * docs/FORMAT.md says what the words mean.
  */
@@ -274,7 +274,7 @@ enum plank_refusals {
 
 /* The accessors (crates/accessors/src/number.rt). */
 enum plank_views {
-    /* Any node, and which node an expression is. */
+    /* Any node, which node an expression is, and where a node stands. */
     PLANK_VIEW_KIND = 0,
     PLANK_VIEW_SPAN = 1,
     PLANK_VIEW_CHILD = 2,
@@ -282,6 +282,9 @@ enum plank_views {
     PLANK_VIEW_IDENT = 4,
     PLANK_VIEW_EXPR = 5,
     PLANK_VIEW_STRUCT_BODY = 6,
+    PLANK_VIEW_PARENT = 7,
+    PLANK_VIEW_ENCLOSING_DECLARATION = 8,
+    PLANK_VIEW_NODE_AT_TOKEN = 9,
     /* Files, constants and imports. */
     PLANK_VIEW_FILE = 32,
     PLANK_VIEW_FILE_DEF = 33,
@@ -419,7 +422,7 @@ enum plank_views {
 #define PLANK_REPORT_LOW 26
 
 /* The words of one node and of one report. */
-#define PLANK_NODE_WIDTH 5
+#define PLANK_NODE_WIDTH 6
 #define PLANK_REPORT_WIDTH 3
 
 /* The bytes that a text may have. */
@@ -480,8 +483,9 @@ uint64_t plank_read(const uint8_t *text, size_t text_len, uint32_t *tokens, size
                     uint64_t *counts, size_t counts_len);
 
 /* What the accessor `which` tells of node `n`: a number, PLANK_NONE, or refusal 8. Accessors of lists tell their
- * i-th. The nodes are only read. Any words and any numbers may be given: none is told by an accessor that isn't
- * there, by one that tells tokens or counts, of a node of another kind, and of a child that is missing. */
+ * i-th, NODE_AT_TOKEN the node at token i. The nodes are only read. Any words and any numbers may be given: none is
+ * told by an accessor that isn't there, by one that tells tokens or counts, of a node of another kind, and of a child
+ * that is missing. */
 uint64_t plank_view(uint32_t which, const uint32_t *nodes, size_t nodes_len, uint32_t n, uint32_t i);
 
 /* The same of accessors that tell tokens (.._SPAN): 0, and in `span`, if it has two words, the first token and the
@@ -665,6 +669,7 @@ struct plank_node {
     uint32_t end;
     uint32_t next; /* the next sibling and the first child; 0 is none */
     uint32_t child;
+    uint32_t parent; /* the node whose child it is: 0, the file's number, for its children; 0 for the file too */
 };
 
 /* 1, and the fields of node `n`; 0, and nothing written, where there is no such node. Fields are as they stand: to
@@ -681,6 +686,7 @@ static inline int plank_node_at(const uint32_t *nodes, size_t nodes_len, uint32_
     node->end = words[2];
     node->next = words[3];
     node->child = words[4];
+    node->parent = words[5];
     return 1;
 }
 
@@ -853,6 +859,16 @@ PLANK_COUNT_VIEW(child_count, CHILD_COUNT)
 PLANK_NUMBER_VIEW(ident, IDENT)
 PLANK_NUMBER_VIEW(expr, EXPR)
 PLANK_NUMBER_VIEW(struct_body, STRUCT_BODY)
+
+/* Where a node stands: the node whose child it is, and the declaration that holds it (the child of the file above it,
+ * or itself); the file has neither. On altered words a parent may be no node's number, which the next look at it
+ * refuses, and going up from parent to parent need not end: bound it. */
+PLANK_NUMBER_VIEW(parent, PARENT)
+PLANK_NUMBER_VIEW(enclosing_declaration, ENCLOSING_DECLARATION)
+/* uint64_t plank_node_at_token(nodes, len, n, i): of node `n` and all below it the innermost that covers token `i`:
+ * its first token is not after `i`, and its end is; with n = 0, of all nodes. None where `n` doesn't cover it, and in
+ * a ring of altered links. */
+PLANK_ITEM_VIEW(node_at_token, NODE_AT_TOKEN)
 
 /* Files, constants and imports. */
 PLANK_NUMBER_VIEW(file, FILE)

@@ -89,12 +89,12 @@ static void test_refusals(void) {
     uint64_t answer;
     size_t i;
     CHECK(read_script(NULL) == 0);
-    answer = plank_checked_read(script, LEN, words(tokens, WORDS), words(nodes, 5), words(values, WORDS),
+    answer = plank_checked_read(script, LEN, words(tokens, WORDS), words(nodes, PLANK_NODE_WIDTH), words(values, WORDS),
                                 words(reports, WORDS), &counts);
     CHECK(plank_refusal(answer) == PLANK_REFUSAL_NODES_DONT_FIT && plank_place(answer) == 1);
     CHECK(counts.tokens == 0 && counts.nodes == 0 && counts.values == 0 && counts.reports == 0);
     for (i = 0; i < WORDS; i++) {
-        CHECK(tokens[i] == 0 && values[i] == 0 && reports[i] == 0 && (i >= 5 || nodes[i] == 0));
+        CHECK(tokens[i] == 0 && values[i] == 0 && reports[i] == 0 && (i >= PLANK_NODE_WIDTH || nodes[i] == 0));
     }
     answer = plank_checked_lex((const uint8_t *)"a\xff", 2, words(tokens, WORDS));
     CHECK(plank_refusal(answer) == PLANK_REFUSAL_NOT_UTF8 && plank_place(answer) == 1);
@@ -128,11 +128,11 @@ static void check_walk(uint32_t n) {
 
 /* Every node of the script; then every link of it altered, one at a time. */
 static void test_walks(void) {
-    static const uint32_t altered[] = {0, 1, 2, 3, 7, 799, 800, UINT32_MAX};
+    static const uint32_t altered[] = {0, 1, 2, 3, 7, 665, 666, UINT32_MAX};
     struct plank_counts counts;
     uint32_t n, m;
     size_t i, link;
-    CHECK(read_script(&counts) == 0 && counts.nodes > 9 && WORDS / PLANK_NODE_WIDTH == 800);
+    CHECK(read_script(&counts) == 0 && counts.nodes > 9 && WORDS / PLANK_NODE_WIDTH == 666);
     for (n = 0; n < counts.nodes; n++) {
         check_walk(n);
     }
@@ -153,6 +153,60 @@ static void test_walks(void) {
     check_walk(0);
     check_walk(1);
     check_walk(UINT32_MAX);
+}
+
+/* Each child's parent is the node; a child of the file is its own declaration, any other has its parent's. */
+static void check_family(uint32_t n) {
+    uint64_t declaration = plank_enclosing_declaration(nodes, WORDS, n);
+    uint64_t child = plank_first_child(nodes, WORDS, n);
+    while (plank_is_number(child)) {
+        CHECK(plank_parent(nodes, WORDS, (uint32_t)child) == n);
+        CHECK(plank_enclosing_declaration(nodes, WORDS, (uint32_t)child) == (n == 0 ? child : declaration));
+        child = plank_next_sibling(nodes, WORDS, (uint32_t)child);
+    }
+}
+
+/* The innermost node covers the token, and none of its children does. */
+static void check_token(uint32_t t) {
+    uint64_t found = plank_node_at_token(nodes, WORDS, 0, t);
+    uint64_t child;
+    struct plank_node node;
+    CHECK(plank_is_number(found) && plank_node_at(nodes, WORDS, (uint32_t)found, &node));
+    CHECK(node.first <= t && t < node.end);
+    for (child = plank_first_child(nodes, WORDS, (uint32_t)found); plank_is_number(child);
+         child = plank_next_sibling(nodes, WORDS, (uint32_t)child)) {
+        CHECK(plank_node_at(nodes, WORDS, (uint32_t)child, &node));
+        CHECK(t < node.first || node.end <= t);
+    }
+}
+
+static void test_family(void) {
+    struct plank_counts counts;
+    struct plank_node file;
+    uint64_t answer;
+    uint32_t n, t;
+    CHECK(read_script(&counts) == 0 && plank_node_at(nodes, WORDS, 0, &file));
+    CHECK(plank_is_none(plank_parent(nodes, WORDS, 0)));
+    CHECK(plank_is_none(plank_enclosing_declaration(nodes, WORDS, 0)));
+    for (n = 0; n < counts.nodes; n++) {
+        check_family(n);
+    }
+    for (t = 0; t < file.end; t++) {
+        check_token(t);
+    }
+    CHECK(plank_is_none(plank_node_at_token(nodes, WORDS, 0, file.end)));
+    /* A ring of parents holds no declaration. */
+    nodes[PLANK_NODE_WIDTH * 2 + 5] = 2;
+    CHECK(plank_is_none(plank_enclosing_declaration(nodes, WORDS, 2)));
+    CHECK(plank_refusal(plank_parent(nodes, WORDS, UINT32_MAX)) == PLANK_REFUSAL_ALTERED_NODES);
+    /* A parent past the words is told as it stands, and refused where it is looked at. */
+    nodes[PLANK_NODE_WIDTH * 2 + 5] = 666;
+    CHECK(plank_parent(nodes, WORDS, 2) == 666);
+    answer = plank_enclosing_declaration(nodes, WORDS, 2);
+    CHECK(plank_refusal(answer) == PLANK_REFUSAL_ALTERED_NODES && plank_place(answer) == 666);
+    /* A ring of children has no innermost node. */
+    nodes[PLANK_NODE_WIDTH + 4] = 1;
+    CHECK(plank_is_none(plank_node_at_token(nodes, WORDS, 0, 0)));
 }
 
 /* As many statements as a text may have: a walk over links goes through them at once. */
@@ -202,7 +256,7 @@ static void test_empty(void) {
     struct plank_value value;
     uint64_t answer;
     CHECK(plank_checked_lex(NULL, 0, words(tokens, 1)) == 1);
-    CHECK(plank_checked_read(NULL, 0, words(tokens, 1), words(nodes, 5), none, none, NULL) == 0);
+    CHECK(plank_checked_read(NULL, 0, words(tokens, 1), words(nodes, PLANK_NODE_WIDTH), none, none, NULL) == 0);
     answer = plank_checked_lex(NULL, 0, none);
     CHECK(plank_refusal(answer) == PLANK_REFUSAL_TOKENS_DONT_FIT && plank_place(answer) == 1);
     answer = plank_checked_read(NULL, 0, none, none, none, none, NULL);
@@ -242,6 +296,7 @@ int main(void) {
     test_refusals();
     test_altered_words();
     test_walks();
+    test_family();
     test_long_walk();
     test_segments();
     test_empty();

@@ -3,7 +3,7 @@
 //! [`raw::span`](crate::raw::span), those named `.._COUNT` for [`raw::count`](crate::raw::count),
 //! all others for [`raw::number`](crate::raw::number).
 
-// Any node, and which node an expression is.
+// Any node, which node an expression is, and where a node stands.
 pub const KIND: u32 = 0;
 pub const SPAN: u32 = 1;
 pub const CHILD: u32 = 2;
@@ -11,6 +11,10 @@ pub const CHILD_COUNT: u32 = 3;
 pub const IDENT: u32 = 4;
 pub const EXPR: u32 = 5;
 pub const STRUCT_BODY: u32 = 6;
+pub const PARENT: u32 = 7;
+pub const ENCLOSING_DECLARATION: u32 = 8;
+/// Its `i` is a token number.
+pub const NODE_AT_TOKEN: u32 = 9;
 
 // Files, constants and imports.
 pub const FILE: u32 = 32;

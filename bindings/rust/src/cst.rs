@@ -216,6 +216,9 @@ pub struct Node {
     pub tokens: TokenSpan,
     pub next_sibling: Option<NodeIdx>,
     pub first_child: Option<NodeIdx>,
+    /// The node whose child it is; 0, the file's number, where it is nobody's child: of the file
+    /// ([`NodeView::parent`] tells none), and of nodes that reading never makes.
+    pub parent: NodeIdx,
 }
 
 /// The words of a node; 0 links nothing, as File is nobody's child.
@@ -226,13 +229,14 @@ fn link(word: u32) -> Option<NodeIdx> {
 impl Node {
     /// None where there is no such kind or operator.
     fn from_words(words: [u32; NODE_WIDTH]) -> Option<Self> {
-        let [head, first, end, next, child] = words;
+        let [head, first, end, next, child, parent] = words;
         let tag = NodeTag::from_number(head >> NODE_LOW)?;
         Some(Self {
             kind: NodeKind::from_payload(tag, head & ((1 << NODE_LOW) - 1))?,
             tokens: TokenSpan::new(TokenIdx::new(first), TokenIdx::new(end)),
             next_sibling: link(next),
             first_child: link(child),
+            parent: NodeIdx::new(parent),
         })
     }
 }
@@ -251,6 +255,8 @@ pub enum Altered {
     Operator(NodeIdx),
     /// A node that is linked twice.
     Linked(NodeIdx),
+    /// A node with another parent than the one whose child it is.
+    Parent(NodeIdx),
     /// A report with a kind or detail that there isn't.
     Report(u32),
     /// Words behind the last whole node or report.
@@ -265,6 +271,7 @@ impl fmt::Display for Altered {
             Altered::NoFile => write!(f, "node 0 is no File"),
             Altered::Operator(node) => write!(f, "the operator of node {node} was altered"),
             Altered::Linked(node) => write!(f, "node {node} is linked twice"),
+            Altered::Parent(node) => write!(f, "the parent of node {node} was altered"),
             Altered::Report(index) => write!(f, "the words of report {index} were altered"),
             Altered::LeftOver => write!(f, "there are words behind the last node or report"),
         }
@@ -310,8 +317,8 @@ impl ConcreteSyntaxTree {
     }
 
     /// A tree of words that were kept, such as an archive's. They are checked so far that all views
-    /// can answer and that a walk from the file ends. Whether they are the text's, only reading it
-    /// again and comparing shows.
+    /// can answer, that a walk from the file ends and that every parent is the node's. Whether they
+    /// are the text's, only reading it again and comparing shows.
     pub fn from_words(
         source: &str,
         tokens: Vec<u32>,
@@ -433,7 +440,25 @@ fn check_nodes(nodes: &[u32]) -> Result<(), Altered> {
             }
         }
     }
-    Ok(())
+    check_parents(all)
+}
+
+/// Every node has the parent whose child it is, and 0 where it is nobody's child. All are linked
+/// once at most, so no child is met twice.
+fn check_parents(all: &[[u32; NODE_WIDTH]]) -> Result<(), Altered> {
+    let mut parents = vec![0; all.len()];
+    for (n, [.., child, _]) in all.iter().enumerate() {
+        let mut at = *child;
+        while at != 0 {
+            parents[at as usize] = n as u32;
+            [.., at, _, _] = all[at as usize];
+        }
+    }
+    let told = all.iter().map(|[.., parent]| parent);
+    match told.zip(&parents).position(|(told, parent)| told != parent) {
+        Some(n) => Err(Altered::Parent(NodeIdx::new(n as u32))),
+        None => Ok(()),
+    }
 }
 
 fn check_reports(reports: &[u32]) -> Result<(), Altered> {
@@ -501,6 +526,32 @@ impl<'cst> NodeView<'cst> {
 
     pub fn ident(self) -> Option<StrId> {
         self.kind().as_ident()
+    }
+
+    /// The node whose child it is. The file has none. A node that is nobody's child, which reading
+    /// never makes, counts as the file's.
+    pub fn parent(self) -> Option<NodeView<'cst>> {
+        self.tells_node(accessor::PARENT, 0)
+    }
+
+    /// The parent, its parent and so on, up to the file. Of kept words, nodes that the file doesn't
+    /// reach may stand in a ring: then it ends after as many as there are nodes.
+    pub fn ancestors(self) -> impl Iterator<Item = NodeView<'cst>> {
+        let all = iter::successors(self.parent(), |view| view.parent());
+        all.take(self.cst.node_count() as usize)
+    }
+
+    /// The declaration that holds it: the child of the file among its ancestors, or itself. The
+    /// file has none, nor has what stands in or below a ring. A node that is nobody's child, which
+    /// reading never makes, counts as the file's.
+    pub fn enclosing_declaration(self) -> Option<NodeView<'cst>> {
+        self.tells_node(accessor::ENCLOSING_DECLARATION, 0)
+    }
+
+    /// Of this node and all below it, the innermost with first token ≤ `token` < end; none where
+    /// this node doesn't cover it, and in a ring.
+    pub fn node_at_token(self, token: TokenIdx) -> Option<NodeView<'cst>> {
+        self.tells_node(accessor::NODE_AT_TOKEN, token.get())
     }
 
     /// What an accessor tells of this node. The nodes were checked, so none is refused.

@@ -31,7 +31,7 @@ mod report;
 
 pub use cst::{Altered, ConcreteSyntaxTree};
 pub use lexer::Lexed;
-pub use numbers::MAX_TEXT;
+pub use numbers::{MAX_TEXT, NODE_WIDTH};
 pub use refusal::Refusal;
 pub use report::{Report, ReportKind};
 

@@ -299,7 +299,7 @@ pub(crate) const VALUE_LOW: u32 = 30;
 pub(crate) const REPORT_LOW: u32 = 26;
 
 /// The words of one node (crates/words/src/node.rt).
-pub(crate) const NODE_WIDTH: usize = 5;
+pub const NODE_WIDTH: usize = 6;
 
 /// The words of one report (crates/words/src/report.rt).
 pub(crate) const REPORT_WIDTH: usize = 3;

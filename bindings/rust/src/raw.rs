@@ -75,7 +75,8 @@ pub fn read(
     }
 }
 
-/// What an accessor tells of node `n`: a number, or none. Accessors of lists tell their i-th.
+/// What an accessor tells of node `n`: a number, or none. Accessors of lists tell their i-th,
+/// `NODE_AT_TOKEN` the node at token `i`.
 pub fn number(which: u32, nodes: &[u32], n: u32, i: u32) -> Result<Option<u32>, Refusal> {
     Ok(seen(ffi::view(which, nodes, n, i))?.map(|number| number as u32))
 }

@@ -6,7 +6,7 @@ mod constants;
 
 use constants::Shape;
 use plank::{
-    Lexed, Refusal, ReportKind,
+    Lexed, NODE_WIDTH, Refusal, ReportKind,
     ast::{Expr, Statement, TopLevelDef},
     cst::{NodeIdx, NodeKind},
     lexer::{ErrorToken, Token, TokenIdx},
@@ -40,10 +40,10 @@ fn the_example_has_its_words() {
     let head = |kind: u32, payload: u32| kind << 26 | payload;
     #[rustfmt::skip]
     let nodes = [
-        head(0, 0), 0, 8, 0, 1,
-        head(1, 0), 0, 8, 0, 2,
-        head(36, 2), 2, 3, 3, 0,
-        head(33, 0), 6, 7, 0, 0,
+        head(0, 0), 0, 8, 0, 1, 0,
+        head(1, 0), 0, 8, 0, 2, 0,
+        head(36, 2), 2, 3, 3, 0, 1,
+        head(33, 0), 6, 7, 0, 0, 1,
     ];
     assert_eq!(tree.node_words(), nodes);
     assert_eq!(tree.value_words(), [1 << 30 | 1, 1]);
@@ -59,7 +59,7 @@ fn the_example_has_its_words() {
 fn p1_the_empty_text_is_a_file() {
     let tree = plank::parse("").unwrap();
     assert_eq!(tokens(""), [Token::Eof]);
-    assert_eq!(tree.node_words(), [0; 5]);
+    assert_eq!(tree.node_words(), [0; NODE_WIDTH]);
     assert_eq!(tree.as_file().iter_defs().count(), 0);
 }
 

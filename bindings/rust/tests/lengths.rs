@@ -14,6 +14,7 @@ fn is_read(text: &str) -> [usize; 3] {
             assert!(
                 counts.iter().zip([nodes, values, reports]).all(|(count, most)| *count <= most)
             );
+            assert!(counts[1] <= text.len() + 1, "{text:?}");
             counts
         }
         Err(Refusal::TooDeep { .. }) => [0; 3],
@@ -63,7 +64,7 @@ fn the_worst_rows_fit() {
 fn three_nodes_for_a_byte_occur() {
     let text = repeated("const a=match a{", ",", 60_000);
     let [nodes, ..] = is_read(&text);
-    assert!(nodes > 5 * 3 * 59_900, "{nodes}");
+    assert!(nodes > plank::NODE_WIDTH * 3 * 59_900, "{nodes}");
 }
 
 #[test]

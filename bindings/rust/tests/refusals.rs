@@ -6,7 +6,7 @@ mod constants;
 
 use constants::Shape;
 use plank::{
-    Altered, ConcreteSyntaxTree, Lexed, Refusal, accessor,
+    Altered, ConcreteSyntaxTree, Lexed, NODE_WIDTH, Refusal, accessor,
     ast::{BlockExpr, Expr, Statement, TopLevelDef},
     cst::{BytesId, NodeIdx, NodeView, NumLitId, StrId},
     lexer::{SourceByteOffset, TokenIdx},
@@ -26,10 +26,10 @@ fn read(lengths: [usize; 4]) -> (Result<raw::Counts, Refusal>, [Vec<u32>; 4]) {
 
 #[test]
 fn slices_of_just_enough_words_are_written() {
-    let (answer, words) = read([9, 20, 2, 0]);
+    let (answer, words) = read([9, 24, 2, 0]);
     assert_eq!(answer, Ok(raw::Counts { tokens: 9, nodes: 4, values: 2, reports: 0 }));
     assert!(words.iter().flatten().all(|word| *word != FILL));
-    let (_, longer) = read([12, 26, 3, 5]);
+    let (_, longer) = read([12, 30, 3, 5]);
     for (just, longer) in words.iter().zip(&longer) {
         assert_eq!(longer[..just.len()], just[..]);
         assert!(longer[just.len()..].iter().all(|word| *word == 0));
@@ -41,20 +41,20 @@ fn short_slices_are_refused_and_left_0() {
     let needed = 9;
     let token = TokenIdx::new;
     for (lengths, refusal) in [
-        ([8, 20, 2, 0], Refusal::TokensDontFit { needed }),
+        ([8, 24, 2, 0], Refusal::TokensDontFit { needed }),
         ([0, 0, 0, 0], Refusal::TokensDontFit { needed }),
-        ([9, 19, 2, 0], Refusal::NodesDontFit { token: token(7) }),
-        ([9, 4, 2, 0], Refusal::NodesDontFit { token: token(0) }),
-        ([9, 20, 1, 0], Refusal::ValuesDontFit { token: token(7) }),
+        ([9, 23, 2, 0], Refusal::NodesDontFit { token: token(7) }),
+        ([9, 5, 2, 0], Refusal::NodesDontFit { token: token(0) }),
+        ([9, 24, 1, 0], Refusal::ValuesDontFit { token: token(7) }),
     ] {
         let (answer, words) = read(lengths);
         assert_eq!(answer, Err(refusal), "{lengths:?}");
         assert!(words.iter().flatten().all(|word| *word == 0));
     }
-    let mut nodes = [FILL; 5];
+    let mut nodes = [FILL; NODE_WIDTH];
     let answer = raw::read(b"a", &mut [0; 2], &mut nodes, &mut [], &mut []);
     assert_eq!(answer, Err(Refusal::ReportsDontFit { token: token(0) }));
-    assert_eq!(nodes, [0; 5]);
+    assert_eq!(nodes, [0; NODE_WIDTH]);
     let mut tokens = [FILL; 8];
     assert_eq!(raw::lex(b"const a = 1;", &mut tokens), Err(Refusal::TokensDontFit { needed }));
     assert_eq!(tokens, [0; 8]);
@@ -73,10 +73,16 @@ fn tree() -> ConcreteSyntaxTree {
     plank::parse("const a = 1;").unwrap()
 }
 
-/// The words of that tree with one of the nodes' set to another.
-fn altered(at: usize, word: u32) -> Vec<u32> {
+// The words of a node by their places.
+const HEAD: usize = 0;
+const NEXT: usize = 3;
+const CHILD: usize = 4;
+const PARENT: usize = 5;
+
+/// The words of that tree with one of a node's set to another.
+fn altered(node: usize, place: usize, word: u32) -> Vec<u32> {
     let mut nodes = tree().node_words().to_vec();
-    nodes[at] = word;
+    nodes[NODE_WIDTH * node + place] = word;
     nodes
 }
 
@@ -109,16 +115,20 @@ fn altered_words_are_refusal_8_of_views() {
     assert_eq!(name(&nodes, 0), Ok(None));
     assert_eq!(name(&nodes, 4), refused(4));
     assert_eq!(name(&[], 0), refused(0));
-    assert_eq!(name(&nodes[..8], 1), refused(1));
+    assert_eq!(name(&nodes[..2 * NODE_WIDTH - 1], 1), refused(1));
     // A kind above 49, a next sibling that isn't above its own node, a child past the words.
-    assert_eq!(name(&altered(10, 50 << 26), 1), refused(2));
-    assert_eq!(name(&altered(13, 2), 1), refused(2));
-    assert_eq!(name(&altered(9, 9), 1), refused(9));
+    assert_eq!(name(&altered(2, HEAD, 50 << 26), 1), refused(2));
+    assert_eq!(name(&altered(2, NEXT, 2), 1), refused(2));
+    assert_eq!(name(&altered(1, CHILD, 9), 1), refused(9));
+    // A parent is told as it stands, and refused where it is looked at.
+    let up = altered(2, PARENT, 9);
+    assert_eq!(raw::number(accessor::PARENT, &up, 2, 0), Ok(Some(9)));
+    assert_eq!(raw::number(accessor::ENCLOSING_DECLARATION, &up, 2, 0), refused(9));
     // What is not looked at doesn't matter.
-    assert_eq!(name(&altered(15, 63 << 26), 1), Ok(Some(2)));
-    let kind = altered(5, 50 << 26);
+    assert_eq!(name(&altered(3, HEAD, 63 << 26), 1), Ok(Some(2)));
+    let kind = altered(1, HEAD, 50 << 26);
     assert_eq!(raw::span(accessor::CONST_DECL_SPAN, &kind, 1), refused(1));
-    assert_eq!(raw::count(accessor::FILE_DEF_COUNT, &altered(8, 1), 0), refused(1));
+    assert_eq!(raw::count(accessor::FILE_DEF_COUNT, &altered(1, NEXT, 1), 0), refused(1));
     // An accessor that there isn't, or one that tells something else.
     assert_eq!(raw::number(999, &nodes, 1, 0), Ok(None));
     assert_eq!(raw::number(accessor::CONST_DECL_SPAN, &nodes, 1, 0), Ok(None));
@@ -130,15 +140,17 @@ fn altered_words_make_no_tree() {
     let refusal = |node| Altered::Node(Refusal::AlteredNodes { node: NodeIdx::new(node) });
     for (nodes, error) in [
         (vec![], refusal(0)),
-        (altered(10, 50 << 26), refusal(2)),
-        (altered(13, 2), refusal(2)),
-        (altered(9, 9), refusal(9)),
-        (altered(13, u32::MAX), refusal(u32::MAX)),
-        (altered(0, 1 << 26), Altered::NoFile),
-        (altered(15, 15 << 26 | 25), Altered::Operator(NodeIdx::new(3))),
-        (altered(9, 3), Altered::Linked(NodeIdx::new(3))),
-        (altered(14, 2), Altered::Linked(NodeIdx::new(2))),
-        (tree().node_words()[..19].to_vec(), Altered::LeftOver),
+        (altered(2, HEAD, 50 << 26), refusal(2)),
+        (altered(2, NEXT, 2), refusal(2)),
+        (altered(1, CHILD, 9), refusal(9)),
+        (altered(2, NEXT, u32::MAX), refusal(u32::MAX)),
+        (altered(0, HEAD, 1 << 26), Altered::NoFile),
+        (altered(3, HEAD, 15 << 26 | 25), Altered::Operator(NodeIdx::new(3))),
+        (altered(1, CHILD, 3), Altered::Linked(NodeIdx::new(3))),
+        (altered(2, CHILD, 2), Altered::Linked(NodeIdx::new(2))),
+        (altered(3, PARENT, 2), Altered::Parent(NodeIdx::new(3))),
+        (altered(0, PARENT, 1), Altered::Parent(NodeIdx::new(0))),
+        (tree().node_words()[..4 * NODE_WIDTH - 1].to_vec(), Altered::LeftOver),
     ] {
         assert_eq!(from_nodes(nodes.clone()), Err(error), "{nodes:?}");
         assert_ne!(error.to_string(), "");
@@ -161,10 +173,10 @@ fn any_words_that_link_a_tree_can_be_viewed() {
         for inner in 0..50 {
             #[rustfmt::skip]
             let nodes = vec![
-                0, 0, 9, 0, 1,
-                head(kind) | 1, 0, 9, 0, 2,
-                head(inner), 3, 2, 3, 0,
-                head(9), 7, 7, 0, 0,
+                0, 0, 9, 0, 1, 0,
+                head(kind) | 1, 0, 9, 0, 2, 0,
+                head(inner), 3, 2, 3, 0, 1,
+                head(9), 7, 7, 0, 0, 1,
             ];
             let tree = from_nodes(nodes).unwrap();
             walk(&tree);
@@ -184,6 +196,39 @@ fn walk(tree: &ConcreteSyntaxTree) {
         if let Some(block) = BlockExpr::new(view) {
             assert_ne!(Shape(tree).block(block), "");
         }
+        let parent = view.parent().map(NodeView::idx);
+        assert_eq!(parent, view.ancestors().next().map(NodeView::idx));
+        assert_eq!(parent.is_none(), n == 0);
+        assert_eq!(view.ancestors().last().is_none(), n == 0);
+        assert_eq!(view.enclosing_declaration().is_none(), n == 0);
+        let (start, end) = (view.span().start, view.span().end);
+        assert_eq!(view.node_at_token(start).is_some(), start < end);
+        assert!(view.node_at_token(end).is_none());
+    }
+}
+
+/// Nodes that the file doesn't reach, each the other's child: going up and down ends.
+#[test]
+fn a_ring_that_the_file_does_not_reach_can_be_viewed() {
+    let head = 17 << 26;
+    let nodes = vec![0, 0, 9, 0, 0, 0, head, 0, 9, 0, 2, 2, head, 0, 9, 0, 1, 1];
+    let tree = from_nodes(nodes).unwrap();
+    let view = NodeView::new(&tree, NodeIdx::new(1)).unwrap();
+    assert_eq!(view.ancestors().count(), 3);
+    assert!(view.enclosing_declaration().is_none());
+    assert!(view.node_at_token(TokenIdx::new(0)).is_none());
+}
+
+/// A node that nobody links, and its next sibling, which is linked and nobody's child either.
+#[test]
+fn a_node_that_is_nobodys_child_counts_as_the_files() {
+    let head = 17 << 26;
+    let nodes = vec![0, 0, 9, 0, 0, 0, head, 0, 9, 2, 0, 0, head, 0, 9, 0, 0, 0];
+    let tree = from_nodes(nodes).unwrap();
+    for idx in [1, 2].map(NodeIdx::new) {
+        let view = NodeView::new(&tree, idx).unwrap();
+        assert_eq!(view.parent().map(NodeView::idx), Some(NodeIdx::ZERO));
+        assert_eq!(view.enclosing_declaration().map(NodeView::idx), Some(idx));
     }
 }
 

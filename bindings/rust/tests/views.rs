@@ -6,12 +6,13 @@ mod constants;
 
 use constants::Shape;
 use plank::{
-    ConcreteSyntaxTree, accessor,
+    ConcreteSyntaxTree, NODE_WIDTH, accessor,
     ast::{Expr, ImportSuffix, Statement, TopLevelDef},
     cst::{NodeIdx, NodeView, StrId},
+    lexer::TokenIdx,
     raw,
 };
-use std::{collections::HashSet, mem};
+use std::{collections::HashSet, iter, mem};
 
 const SCRIPT: &str = r#"
 use a::b;
@@ -170,10 +171,37 @@ fn lists_are_those_of_the_accessors() {
         };
         let children: Vec<u32> = view.children().map(|child| child.idx().get()).collect();
         assert_eq!(children, told(accessor::CHILD, accessor::CHILD_COUNT));
-        assert_eq!(raw::number(accessor::KIND, nodes, n, 0), Ok(Some(nodes[5 * n as usize] >> 26)));
+        let kind = nodes[NODE_WIDTH * n as usize] >> 26;
+        assert_eq!(raw::number(accessor::KIND, nodes, n, 0), Ok(Some(kind)));
         assert_eq!(raw::span(accessor::SPAN, nodes, n), Ok(Some(view.span())));
         lists_of(view, &told);
     }
+}
+
+/// From every node up to the file, and from every token to its declaration.
+#[test]
+fn an_editor_climbs_from_a_token_to_its_declaration() {
+    let tree = tree();
+    let file = tree.file_view();
+    assert!(file.parent().is_none() && file.enclosing_declaration().is_none());
+    for n in 0..tree.node_count() {
+        let view = NodeView::new(&tree, NodeIdx::new(n)).unwrap();
+        for child in view.children() {
+            assert_eq!(child.parent().map(NodeView::idx), Some(view.idx()));
+        }
+        let up = numbers(iter::once(view).chain(view.ancestors()));
+        assert_eq!(up.last(), Some(&0));
+        let declaration = view.enclosing_declaration().map(|found| found.idx().get());
+        assert_eq!(declaration.as_ref(), up.iter().rev().nth(1));
+    }
+    let end = file.span().end.get();
+    for token in (0..end).map(TokenIdx::new) {
+        let covers = |view: &NodeView<'_>| view.span().start <= token && token < view.span().end;
+        let found = file.node_at_token(token).unwrap();
+        assert!(covers(&found) && !found.children().any(|child| covers(&child)));
+        assert!(found.ancestors().all(|view| covers(&view)));
+    }
+    assert!(file.node_at_token(TokenIdx::new(end)).is_none());
 }
 
 fn numbers<'a>(views: impl Iterator<Item = NodeView<'a>>) -> Vec<u32> {
