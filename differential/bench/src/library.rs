@@ -1,6 +1,9 @@
 //! The library's reading, into slices that a caller keeps.
 
-use plank::raw::{self, Counts, Lengths};
+use plank::{
+    NODE_WIDTH,
+    raw::{self, Counts, Lengths},
+};
 use std::hint::black_box;
 
 pub struct Slices {
@@ -18,7 +21,7 @@ impl Slices {
         let more = |words: usize| words + words / 4;
         Slices::of(Lengths {
             tokens: more(counts.tokens),
-            nodes: more(5 * counts.nodes),
+            nodes: more(NODE_WIDTH * counts.nodes),
             values: more(counts.values),
             reports: more(3 * counts.reports),
         })

@@ -5,6 +5,7 @@ use crate::{
     read,
     read::{COUNTS, Lent as Lengths},
 };
+use oracle::NODE_WIDTH;
 
 unsafe extern "C" {
     fn plank_lex(text: *const u8, text_len: usize, tokens: *mut u32, tokens_len: usize) -> u64;
@@ -205,7 +206,7 @@ impl Spanned {
 }
 
 /// Stands behind the node words, a name: whoever reads on finds a node.
-const BEHIND_NODES: [u32; 5] = [36 << 26, 0, 1, 0, 0];
+const BEHIND_NODES: [u32; NODE_WIDTH] = [36 << 26, 0, 1, 0, 0, 0];
 
 /// Node words to look at.
 pub struct NodeWords {

@@ -5,6 +5,7 @@ mod changed;
 mod check;
 mod fault;
 mod tally;
+mod tokens;
 
 pub use fault::{FAULTS, Fault};
 
@@ -20,6 +21,7 @@ use generate::ParseTexts;
 use oracle::views::Tree;
 use std::process::ExitCode;
 use tally::Tally;
+use tokens::first_difference_at_tokens;
 
 pub fn run(options: &ViewOptions) -> ExitCode {
     in_a_thread(|| run_all(options))
@@ -48,7 +50,7 @@ fn difference(text: &[u8], fault: Option<Fault>, tally: &mut Tally) -> Option<Di
     let mut tree = Tree::read(str::from_utf8(text).ok()?)?;
     tally.trees += 1;
     let difference = first_difference(&mut tree, fault, tally);
-    let mut all = vec![difference];
+    let mut all = vec![difference, first_difference_at_tokens(&tree, fault, tally)];
     for mut changed in changed_trees(&tree) {
         tally.changed_trees += 1;
         all.push(first_difference(&mut changed, fault, tally));

@@ -2,7 +2,7 @@ use generate::{
     ParseTexts, Rng, TOKENS, Texts, long_texts, nests, script, short_byte_texts, short_rows,
     short_texts, texts_around_the_limit,
 };
-use oracle::End;
+use oracle::{End, NODE_WIDTH};
 use std::collections::HashSet;
 
 const EOF: u32 = 81;
@@ -77,7 +77,7 @@ fn parse_texts_have_every_kind_of_node_and_report() {
         let run = oracle::run(&text);
         reports.extend(run.reports.chunks(3).map(|report| report[0] >> 26));
         if let End::Read(words) = run.end {
-            nodes.extend(words.nodes.chunks(5).map(|node| node[0] >> 26));
+            nodes.extend(words.nodes.chunks(NODE_WIDTH).map(|node| node[0] >> 26));
         }
     }
     assert_eq!(nodes, (0..50).collect());

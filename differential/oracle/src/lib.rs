@@ -10,4 +10,4 @@ mod words;
 
 pub use run::{End, Lengths, Refusal, Run, run};
 pub use watch::{Step, Taken};
-pub use words::{Words, lex, read, try_read};
+pub use words::{NODE_WIDTH, Words, lex, read, try_read};

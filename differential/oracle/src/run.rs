@@ -5,7 +5,7 @@ use crate::{
     lexer::Lexed,
     parser::parse,
     watch::{Step, Taken, TooDeep, Watch},
-    words::{Words, report_words, token_words, words_of},
+    words::{NODE_WIDTH, Words, report_words, token_words, words_of},
 };
 use plank_core::Idx;
 use plank_session::{Session, SourceId};
@@ -62,7 +62,7 @@ impl Run {
     pub fn need(&self) -> Lengths {
         let count = |step| self.steps.iter().filter(|taken| taken.step == step).count();
         Lengths {
-            nodes: 5 * count(Step::Node),
+            nodes: NODE_WIDTH * count(Step::Node),
             values: self.values.len(),
             reports: 3 * count(Step::Report),
         }
@@ -73,7 +73,7 @@ impl Run {
         let mut left = lent;
         for Taken { step, cursor } in &self.steps {
             let (room, words, number) = match step {
-                Step::Node => (&mut left.nodes, 5, NODES_DONT_FIT),
+                Step::Node => (&mut left.nodes, NODE_WIDTH, NODES_DONT_FIT),
                 Step::Value { words } => (&mut left.values, *words, VALUES_DONT_FIT),
                 Step::Report => (&mut left.reports, 3, REPORTS_DONT_FIT),
             };

@@ -1,6 +1,7 @@
 //! What the reference's views tell of every node of a tree, as the numbers of document 01.
 
 mod changes;
+mod family;
 mod node;
 mod parents;
 mod table;
@@ -11,12 +12,13 @@ mod number;
 
 pub use changes::Change;
 pub use node::{By, Node, Told};
+pub use number::NODE_AT_TOKEN;
 pub use table::{LISTS, List, NUMBERS, One, SPANS};
 
 use crate::{
     cst::{ConcreteSyntaxTree, NodeIdx, NodeKind, NodeView, NumLitId},
     run::read_tree,
-    words::Words,
+    words::{NODE_WIDTH, Words, parents_of},
 };
 use parents::Parents;
 use plank_core::Idx;
@@ -29,6 +31,8 @@ pub struct Tree {
     /// With the hand-made parents behind the tree's own nodes.
     cst: ConcreteSyntaxTree,
     parents: Parents,
+    /// The parent of each node, by the links that were read.
+    above: Vec<u32>,
     words: Words,
     names: HashMap<StrId, u32>,
     numbers: HashMap<NumLitId, u32>,
@@ -44,10 +48,12 @@ impl Tree {
     /// None where the reference panics or the text is too deep.
     pub fn read(text: &str) -> Option<Tree> {
         let (mut cst, words) = read_tree(text)?;
+        let above = parents_of(&cst);
         let parents = Parents::add_to(&mut cst);
         let mut tree = Tree {
             cst,
             parents,
+            above,
             words,
             names: HashMap::new(),
             numbers: HashMap::new(),
@@ -63,7 +69,7 @@ impl Tree {
     }
 
     pub fn count(&self) -> u32 {
-        (self.words.nodes.len() / 5) as u32
+        (self.words.nodes.len() / NODE_WIDTH) as u32
     }
 
     /// A node, which the hand-made parents have for a child from now on.
@@ -77,7 +83,7 @@ impl Tree {
     fn note_payloads(&mut self) {
         self.leaves.clear();
         for (number, (node, words)) in
-            self.cst.nodes.iter().zip(self.words.nodes.chunks(5)).enumerate()
+            self.cst.nodes.iter().zip(self.words.nodes.chunks(NODE_WIDTH)).enumerate()
         {
             let payload = words[0] & 0x3ff_ffff;
             let before = match node.kind {

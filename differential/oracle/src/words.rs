@@ -7,7 +7,7 @@ use crate::{
 };
 use plank_core::Idx;
 use plank_session::{Report, Session, SourceId, StrId};
-use std::{collections::HashMap, panic, thread};
+use std::{collections::HashMap, iter, panic, thread};
 
 #[derive(Debug, Clone, Default, PartialEq, Eq)]
 pub struct Words {
@@ -16,6 +16,9 @@ pub struct Words {
     pub values: Vec<u32>,
     pub reports: Vec<u32>,
 }
+
+/// The words of a node.
+pub const NODE_WIDTH: usize = 6;
 
 /// The token words of a text.
 pub fn lex(text: &str) -> Vec<u32> {
@@ -33,8 +36,8 @@ pub fn read(text: &str) -> Words {
 /// The words of a text that the reference has read.
 pub fn words_of(text: &str, lexed: &Lexed, session: &Session, tree: &ConcreteSyntaxTree) -> Words {
     let mut writer = TreeWriter::new(text, lexed, session, tree);
-    for node in tree.nodes.iter() {
-        writer.write_node(node);
+    for (node, parent) in tree.nodes.iter().zip(parents_of(tree)) {
+        writer.write_node(node, parent);
     }
     Words {
         tokens: token_words(lexed),
@@ -75,6 +78,17 @@ pub fn report_words(session: &Session) -> Vec<u32> {
     session.reports().iter().flat_map(words).collect()
 }
 
+/// The parent of each node. The reference has none: it is the one whose first child and next
+/// siblings lead to the node, and 0 where none does.
+pub fn parents_of(tree: &ConcreteSyntaxTree) -> Vec<u32> {
+    let mut parents = vec![0; tree.nodes.iter().count()];
+    for (number, node) in tree.nodes.iter().enumerate() {
+        let links = iter::successors(node.first_child, |child| tree.nodes[*child].next_sibling);
+        links.for_each(|child| parents[child.idx()] = number as u32);
+    }
+    parents
+}
+
 /// Writes nodes in the order in which they were made. As the reference makes a literal's
 /// value right before its node, the values come in their order too.
 struct TreeWriter<'a> {
@@ -96,7 +110,7 @@ impl<'a> TreeWriter<'a> {
         TreeWriter { session, tree, first_spelled, nodes: Vec::new(), values: Vec::new() }
     }
 
-    fn write_node(&mut self, node: &Node) {
+    fn write_node(&mut self, node: &Node, parent: u32) {
         let (kind, payload) = self.kind_and_payload(node.kind);
         self.nodes.extend([
             kind << 26 | payload,
@@ -104,6 +118,7 @@ impl<'a> TreeWriter<'a> {
             node.tokens.end.get(),
             number_or_none(node.next_sibling),
             number_or_none(node.first_child),
+            parent,
         ]);
     }
 

@@ -1,6 +1,6 @@
 //! The cases P1 to P12 and the printed tree of document 01, and facts of the reading notes.
 
-use oracle::{Words, lex, lexer::Lexed, parser::parse, read, try_read};
+use oracle::{NODE_WIDTH, Words, lex, lexer::Lexed, parser::parse, read, try_read};
 use plank_core::Idx;
 use plank_session::{Session, SourceId};
 use std::collections::HashSet;
@@ -18,13 +18,13 @@ fn tokens(text: &str) -> Vec<(u32, u32)> {
 
 /// The node's kind, with its children in brackets.
 fn tree_at(words: &Words, node: u32) -> String {
-    let at = node as usize * 5;
+    let at = node as usize * NODE_WIDTH;
     let kind = words.nodes[at] >> 26;
     let mut child = words.nodes[at + 4];
     let mut children = Vec::new();
     while child != 0 {
         children.push(tree_at(words, child));
-        child = words.nodes[child as usize * 5 + 3];
+        child = words.nodes[child as usize * NODE_WIDTH + 3];
     }
     if children.is_empty() { kind.to_string() } else { format!("{kind}({})", children.join(" ")) }
 }
@@ -45,7 +45,8 @@ fn assigned(expression: &str) -> String {
 
 #[test]
 fn p1_empty_text() {
-    let expected = Words { tokens: vec![EOF << 25], nodes: vec![0; 5], ..Words::default() };
+    let expected =
+        Words { tokens: vec![EOF << 25], nodes: vec![0; NODE_WIDTH], ..Words::default() };
     assert_eq!(read(""), expected);
 }
 
@@ -89,13 +90,18 @@ fn p11_and_p12_blocks() {
 #[test]
 fn printed_tree() {
     let words = read("const a = 1;");
-    let rows: Vec<[u32; 6]> = words
+    // Kind, payload, first token, end, next sibling, first child, parent.
+    let rows: Vec<[u32; 7]> = words
         .nodes
-        .chunks(5)
-        .map(|n| [n[0] >> 26, n[0] & 0x3ff_ffff, n[1], n[2], n[3], n[4]])
+        .chunks(NODE_WIDTH)
+        .map(|n| [n[0] >> 26, n[0] & 0x3ff_ffff, n[1], n[2], n[3], n[4], n[5]])
         .collect();
-    let expected =
-        [[0, 0, 0, 8, 0, 1], [1, 0, 0, 8, 0, 2], [36, 2, 2, 3, 3, 0], [33, 0, 6, 7, 0, 0]];
+    let expected = [
+        [0, 0, 0, 8, 0, 1, 0],
+        [1, 0, 0, 8, 0, 2, 0],
+        [36, 2, 2, 3, 3, 0, 1],
+        [33, 0, 6, 7, 0, 0, 1],
+    ];
     assert_eq!(rows, expected);
     assert_eq!(words.values, [1 << 30 | 1, 1]);
     assert_eq!(words.reports, []);
@@ -113,13 +119,13 @@ fn number_values() {
 fn names_and_flags() {
     let words = read("const a = @a; const b = @a(a);");
     let payloads = |kind| {
-        let nodes = words.nodes.chunks(5).map(|node| node[0]);
+        let nodes = words.nodes.chunks(NODE_WIDTH).map(|node| node[0]);
         nodes.filter(move |head| head >> 26 == kind).map(|head| head & 0x3ff_ffff)
     };
     assert_eq!(payloads(36).collect::<Vec<_>>(), [2, 11, 2]);
     assert_eq!(payloads(37).collect::<Vec<_>>(), [6, 6]);
-    assert_eq!(read("pub use a::*;").nodes[5], 2 << 26 | 0b11);
-    assert_eq!(read("init { comptime let a: b = c; }").nodes[15], 10 << 26 | 0b101);
+    assert_eq!(read("pub use a::*;").nodes[NODE_WIDTH], 2 << 26 | 0b11);
+    assert_eq!(read("init { comptime let a: b = c; }").nodes[3 * NODE_WIDTH], 10 << 26 | 0b101);
 }
 
 #[test]
@@ -157,7 +163,7 @@ fn panics_of_the_reference() {
 fn deep_nests_are_read() {
     let text = format!("const a = {}1{};", "(".repeat(30_000), ")".repeat(30_000));
     let words = try_read(&text).expect("closed brackets cost no fuel");
-    assert_eq!(words.nodes.len() / 5, 30_004);
+    assert_eq!(words.nodes.len() / NODE_WIDTH, 30_004);
 }
 
 /// The names of the kinds of node, in the order in which the reference declares them.
@@ -190,7 +196,7 @@ fn kind_numbers_follow_the_declaration() {
     let mut seen = HashSet::new();
     for text in ALL_KINDS {
         let tree = parse(&mut Session::new(), &Lexed::lex(text), text, SourceId::ZERO);
-        for (node, words) in tree.nodes.iter().zip(read(text).nodes.chunks(5)) {
+        for (node, words) in tree.nodes.iter().zip(read(text).nodes.chunks(NODE_WIDTH)) {
             let number = (words[0] >> 26) as usize;
             assert_eq!(leading_name(&format!("{:?}", node.kind)), names[number]);
             seen.insert(number);

@@ -23,21 +23,21 @@ fn in_brackets(count: usize, inner: &str) -> String {
 
 #[test]
 fn words_that_dont_fit() {
-    assert_eq!(refused("", 4, 0, 0), Some((5, 0)));
-    assert_eq!(refused("", 5, 0, 0), None);
-    assert_eq!(refused("#", 5, 0, 0), Some((7, 1)));
+    assert_eq!(refused("", 5, 0, 0), Some((5, 0)));
+    assert_eq!(refused("", 6, 0, 0), None);
+    assert_eq!(refused("#", 6, 0, 0), Some((7, 1)));
     assert_eq!(refused("const a = #", 100, 0, 2), Some((7, 7)));
-    assert_eq!(refused("x", 5, 0, 0), Some((7, 0)));
-    assert_eq!(refused("const a = 1;", 15, 0, 0), Some((6, 7)));
-    assert_eq!(refused("const a = 1;", 15, 9, 0), Some((5, 7)));
-    assert_eq!(refused("const a = \"s\" ;", 15, 0, 0), Some((6, 8)));
+    assert_eq!(refused("x", 6, 0, 0), Some((7, 0)));
+    assert_eq!(refused("const a = 1;", 18, 0, 0), Some((6, 7)));
+    assert_eq!(refused("const a = 1;", 18, 9, 0), Some((5, 7)));
+    assert_eq!(refused("const a = \"s\" ;", 18, 0, 0), Some((6, 8)));
 }
 
 /// Those in docs/DIFFERENCES.md.
 #[test]
 fn small_texts() {
-    assert_eq!(refused("run\"", 15, 0, 3), Some((6, 2)));
-    assert_eq!(refused("a", 5, 0, 0), Some((7, 0)));
+    assert_eq!(refused("run\"", 18, 0, 3), Some((6, 2)));
+    assert_eq!(refused("a", 6, 0, 0), Some((7, 0)));
     assert_eq!(too_deep(&format!("run{}", "{".repeat(129))), Some(129));
     assert_eq!(too_deep(&format!("run{}", "{".repeat(128))), None);
 }

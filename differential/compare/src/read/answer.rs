@@ -5,7 +5,7 @@ use crate::{
     answer::{MOST_BYTES, NOT_UTF8, TOKENS_DONT_FIT, TOO_LONG},
     library::COUNT_FILL,
 };
-use oracle::{End, Lengths, Refusal, Run, Words};
+use oracle::{End, Lengths, NODE_WIDTH, Refusal, Run, Words};
 
 /// The lengths of all slices that are lent, in words.
 #[derive(Debug, Clone, Copy, PartialEq, Eq)]
@@ -62,7 +62,7 @@ impl Answer {
 
     fn done(tokens: &[u32], words: &Words, lent: Lent) -> Answer {
         let Words { nodes, values, reports, .. } = words;
-        let counts = [tokens.len(), nodes.len() / 5, values.len(), reports.len() / 3];
+        let counts = [tokens.len(), nodes.len() / NODE_WIDTH, values.len(), reports.len() / 3];
         Answer {
             number: 0,
             place: 0,

@@ -1,7 +1,7 @@
 //! Planted faults in the reference's answers, to show that the comparison can fail.
 
 use crate::read::answer::Answer;
-use oracle::{End, Run, Step};
+use oracle::{End, NODE_WIDTH, Run, Step};
 
 const BINARY_EXPR: u32 = 15;
 const PAREN_EXPR: u32 = 17;
@@ -12,6 +12,8 @@ const CONST_DECL: u32 = 1;
 pub enum Fault {
     /// A ParenExpr has no child.
     Link,
+    /// A node in brackets has their parent for its own.
+    Parent,
     /// An Operator ends one token later.
     Span,
     /// A constant has no type.
@@ -34,8 +36,9 @@ pub enum Fault {
     Counts,
 }
 
-pub const FAULTS: [(&str, Fault); 11] = [
+pub const FAULTS: [(&str, Fault); 12] = [
     ("link", Fault::Link),
+    ("parent", Fault::Parent),
     ("span", Fault::Span),
     ("flag", Fault::Flag),
     ("operator", Fault::Operator),
@@ -59,7 +62,10 @@ impl Fault {
             Fault::Depth => run.cursor += u32::from(run.end == End::TooDeep),
             _ => {
                 if let End::Read(words) = &mut run.end {
-                    words.nodes.chunks_mut(5).for_each(|node| self.plant_in_node(node));
+                    words.nodes.chunks_mut(NODE_WIDTH).for_each(|node| self.plant_in_node(node));
+                    if self == Fault::Parent {
+                        pass_brackets(&mut words.nodes);
+                    }
                     words.reports.chunks_mut(3).for_each(|report| self.plant_in_report(report));
                     if self == Fault::Value {
                         turn_numbers(&mut words.values);
@@ -99,6 +105,17 @@ impl Fault {
             (Fault::Report, 4) => report[1] = report[2],
             (Fault::Detail, 2) => report[0] = 2 << 26 | 81,
             _ => {}
+        }
+    }
+}
+
+/// The parent's parent, where the parent is a ParenExpr.
+fn pass_brackets(nodes: &mut [u32]) {
+    let told = nodes.to_vec();
+    for node in nodes.chunks_mut(NODE_WIDTH) {
+        let parent = NODE_WIDTH * node[5] as usize;
+        if told[parent] >> 26 == PAREN_EXPR {
+            node[5] = told[parent + 5];
         }
     }
 }

@@ -1,6 +1,6 @@
 //! What a text shows of the parser: the sample takes texts that show something new.
 
-use oracle::{End, Run, Step};
+use oracle::{End, NODE_WIDTH, Run, Step};
 use std::collections::HashSet;
 
 /// Heads of nodes, which child stands in which parent, reports and which follow which, and
@@ -8,7 +8,7 @@ use std::collections::HashSet;
 pub fn features(run: &Run) -> HashSet<[u32; 3]> {
     let mut all = HashSet::new();
     if let End::Read(words) = &run.end {
-        all.extend(words.nodes.chunks(5).map(|node| [1, shown_head(node[0]), 0]));
+        all.extend(words.nodes.chunks(NODE_WIDTH).map(|node| [1, shown_head(node[0]), 0]));
         all.extend(families(&words.nodes));
     }
     let kinds: Vec<u32> = run.reports.chunks(3).map(|report| report[0] >> 26).collect();
@@ -43,14 +43,14 @@ fn shown_report(word: u32) -> u32 {
 
 /// Parent, child, and whether it is the first, the second or a later one.
 fn families(nodes: &[u32]) -> Vec<[u32; 3]> {
-    let kind = |node: u32| nodes[5 * node as usize] >> 26;
+    let kind = |node: u32| nodes[NODE_WIDTH * node as usize] >> 26;
     let mut all = Vec::new();
-    for parent in nodes.chunks(5) {
+    for parent in nodes.chunks(NODE_WIDTH) {
         let (mut child, mut place) = (parent[4], 0);
         while child != 0 {
             all.push([2, (parent[0] >> 26) << 8 | kind(child), place]);
             place = 2.min(place + 1);
-            child = nodes[5 * child as usize + 3];
+            child = nodes[NODE_WIDTH * child as usize + 3];
         }
     }
     all

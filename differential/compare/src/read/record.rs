@@ -15,7 +15,7 @@ use oracle::{End, Lengths, Refusal, Run, Words};
 use std::{collections::HashSet, panic, path::Path, process::ExitCode};
 
 /// So many bytes without those texts that fuzzing found.
-const MOST_BYTES: usize = 190_000;
+const MOST_BYTES: usize = 205_500;
 const LONGEST_TEXT: usize = 300;
 const GENERATED: usize = 12_000;
 const MOST_TRIES: usize = 8;
@@ -146,19 +146,20 @@ fn encode(records: &[Record]) -> Vec<u8> {
 #[cfg(test)]
 mod tests {
     use super::*;
+    use oracle::NODE_WIDTH;
     use std::sync::LazyLock;
 
     static SAMPLE: LazyLock<Vec<Record>> = LazyLock::new(sample);
 
     /// More the replaying program doesn't take.
-    const LONGEST_DATA: usize = 196_608;
+    const LONGEST_DATA: usize = 229_376;
 
     fn node_heads(records: &[Record]) -> HashSet<u32> {
         let trees = records.iter().filter_map(|record| match &record.run.end {
             End::Read(words) => Some(&words.nodes),
             _ => None,
         });
-        trees.flat_map(|nodes| nodes.chunks(5).map(|node| node[0])).collect()
+        trees.flat_map(|nodes| nodes.chunks(NODE_WIDTH).map(|node| node[0])).collect()
     }
 
     #[test]

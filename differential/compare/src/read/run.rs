@@ -10,7 +10,9 @@ use crate::{
     },
     run::{Run, in_a_thread},
 };
-use generate::{NameTexts, ParseTexts, Texts, long_texts, nests, short_rows, texts_around_the_limit};
+use generate::{
+    NameTexts, ParseTexts, Texts, long_texts, nests, short_rows, texts_around_the_limit,
+};
 use std::{fmt, process::ExitCode};
 
 pub fn run(options: &ReadOptions) -> ExitCode {

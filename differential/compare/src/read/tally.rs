@@ -1,7 +1,7 @@
 //! How many texts and calls there were of each sort.
 
 use crate::read::check::Exception;
-use oracle::{End, Run};
+use oracle::{End, NODE_WIDTH, Run};
 use std::{collections::BTreeMap, collections::BTreeSet, fmt};
 
 #[derive(Debug, Default)]
@@ -23,7 +23,7 @@ impl Tally {
         add_kinds(&mut self.reports, run.reports.chunks(3));
         let count = match &run.end {
             End::Read(words) => {
-                add_kinds(&mut self.nodes, words.nodes.chunks(5));
+                add_kinds(&mut self.nodes, words.nodes.chunks(NODE_WIDTH));
                 &mut self.read
             }
             End::TooDeep => &mut self.too_deep,

@@ -5,7 +5,9 @@ use crate::{
     views::{Fault, changed::rng_of, check::Difference, tally::Tally},
 };
 use generate::Rng;
-use oracle::views::{LISTS, NUMBERS, SPANS, Tree};
+use oracle::NODE_WIDTH;
+use oracle::views::{LISTS, NODE_AT_TOKEN, NUMBERS, SPANS, Tree};
+use std::collections::HashSet;
 
 /// So many altered copies are made of each tree's words.
 const COPIES: u64 = 3;
@@ -32,7 +34,7 @@ pub fn first_difference_altered(
 /// One to four words are changed, and at times the last words are missing.
 fn alter(rng: &mut Rng, words: &[u32]) -> Vec<u32> {
     let mut altered = words.to_vec();
-    let nodes = words.len() / 5;
+    let nodes = words.len() / NODE_WIDTH;
     for _ in 0..1 + rng.below(4) {
         let place = rng.below(altered.len());
         altered[place] = match rng.below(4) {
@@ -42,7 +44,7 @@ fn alter(rng: &mut Rng, words: &[u32]) -> Vec<u32> {
             _ => u32::MAX - rng.below(3) as u32,
         };
     }
-    altered.truncate(words.len() - rng.below(6).min(words.len()));
+    altered.truncate(words.len() - rng.below(NODE_WIDTH + 1));
     altered
 }
 
@@ -53,7 +55,7 @@ fn difference_in(
     rng: &mut Rng,
 ) -> Option<Difference> {
     let library = NodeWords::new(words);
-    let count = (words.len() / 5) as u32;
+    let count = (words.len() / NODE_WIDTH) as u32;
     let some = (0..count.min(MOST_NODES)).chain([count, count + 1, u32::MAX]);
     let drawn: Vec<u32> = (0..8).map(|_| rng.below(count as usize + 1) as u32).collect();
     let mut first = None;
@@ -87,6 +89,14 @@ fn difference_in(
             let found = library.view(children.number, node, i);
             compare("CHILD", node, seen(child(words, node, i)), found);
         }
+        let found = library.view(number("PARENT"), node, 0);
+        compare("PARENT", node, seen(parent(words, node)), found);
+        let found = library.view(number("ENCLOSING_DECLARATION"), node, 0);
+        compare("ENCLOSING_DECLARATION", node, seen(declaration(words, node)), found);
+        for token in [0, 2, 7, node, u32::MAX] {
+            let found = library.view(NODE_AT_TOKEN, node, token);
+            compare("NODE_AT_TOKEN", node, seen(node_at_token(words, node, token)), found);
+        }
         // Where any accessor refuses, it is at a node that a look refuses.
         for which in (0..224).filter(|which| which % 8 == node % 8) {
             if let Seen::Refused(place) = library.view(which, node, node % 4) {
@@ -116,12 +126,16 @@ impl Looked<'_> {
     fn next(&self) -> u32 {
         self.0[3]
     }
+
+    fn covers(&self, token: u32) -> bool {
+        (self.0[1]..self.0[2]).contains(&token)
+    }
 }
 
 /// "node number past the words, kind above 49, or next sibling other than 0 not above its own node"
 fn look(words: &[u32], node: u32) -> Result<Looked<'_>, u32> {
-    let start = 5 * node as usize;
-    let found = words.get(start..start + 5).map(Looked).ok_or(node)?;
+    let start = NODE_WIDTH * node as usize;
+    let found = words.get(start..start + NODE_WIDTH).map(Looked).ok_or(node)?;
     let falls = found.next() != 0 && found.next() <= node;
     if found.kind() > 49 || falls { Err(node) } else { Ok(found) }
 }
@@ -148,6 +162,47 @@ fn count_of(words: &[u32], node: u32) -> Result<u32, u32> {
         count += 1;
     }
     Ok(count)
+}
+
+fn parent(words: &[u32], node: u32) -> Result<Option<u32>, u32> {
+    let looked = look(words, node)?;
+    Ok((node != 0).then_some(looked.0[5]))
+}
+
+/// None in a ring.
+fn declaration(words: &[u32], node: u32) -> Result<Option<u32>, u32> {
+    let mut passed = HashSet::new();
+    let mut at = node;
+    while passed.insert(at) {
+        match parent(words, at)? {
+            None => return Ok(None),
+            Some(0) => return Ok(Some(at)),
+            Some(above) => at = above,
+        }
+    }
+    Ok(None)
+}
+
+/// None in a ring.
+fn node_at_token(words: &[u32], node: u32, token: u32) -> Result<Option<u32>, u32> {
+    let outermost = look(words, node)?;
+    if !outermost.covers(token) {
+        return Ok(None);
+    }
+    let mut passed = HashSet::new();
+    let (mut found, mut at) = (node, outermost.0[4]);
+    while at != 0 {
+        if !passed.insert(at) {
+            return Ok(None);
+        }
+        let looked = look(words, at)?;
+        if looked.covers(token) {
+            (found, at) = (at, looked.0[4]);
+        } else {
+            at = looked.next();
+        }
+    }
+    Ok(Some(found))
 }
 
 fn seen(told: Result<Option<u32>, u32>) -> Seen {

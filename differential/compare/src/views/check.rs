@@ -4,7 +4,7 @@ use crate::{
     library::{NodeWords, Seen, Spanned},
     views::{Fault, tally::Tally},
 };
-use oracle::views::{LISTS, NUMBERS, Node, SPANS, Told, Tree};
+use oracle::views::{LISTS, NODE_AT_TOKEN, NUMBERS, Node, SPANS, Told, Tree};
 use std::fmt;
 
 /// An answer that isn't the reference's.
@@ -100,6 +100,7 @@ impl Check<'_> {
         let of_numbers = |which: &u32| {
             NUMBERS.iter().any(|one| one.number == *which)
                 || LISTS.iter().any(|list| list.number == *which)
+                || *which == NODE_AT_TOKEN
         };
         let of_spans = |which: &u32| SPANS.iter().any(|one| one.number == *which);
         let of_counts = |which: &u32| LISTS.iter().any(|list| list.count == *which);

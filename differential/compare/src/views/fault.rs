@@ -14,17 +14,23 @@ pub enum Fault {
     Count,
     /// The last statement of a block is none.
     Item,
+    /// Every node's parent is the file.
+    Parent,
+    /// A token is in the file alone.
+    Token,
     /// Altered words are refused one node later.
     Place,
 }
 
-pub const FAULTS: [(&str, Fault); 7] = [
+pub const FAULTS: [(&str, Fault); 9] = [
     ("node", Fault::Node),
     ("flag", Fault::Flag),
     ("name", Fault::Name),
     ("span", Fault::Span),
     ("count", Fault::Count),
     ("item", Fault::Item),
+    ("parent", Fault::Parent),
+    ("token", Fault::Token),
     ("place", Fault::Place),
 ];
 
@@ -34,6 +40,8 @@ impl Fault {
             (Fault::Node, "BINARY_EXPR_RHS", Some(node)) => *node += 1,
             (Fault::Flag, "LET_STMT_MUTABLE", Some(flag)) => *flag = 0,
             (Fault::Name, "MEMBER_EXPR_MEMBER", Some(token)) => *token += 1,
+            (Fault::Parent, "PARENT", Some(node)) => *node = 0,
+            (Fault::Token, "NODE_AT_TOKEN", Some(node)) => *node = 0,
             _ => {}
         }
     }
@@ -94,9 +102,12 @@ mod tests {
         let text = "const a = b.c + d(e); init { let mut f = 1; }";
         let mut tree = Tree::read(text).expect("a tree");
         for (name, fault) in FAULTS {
-            // The last is planted in refusals, which no tree has.
+            // One is planted in refusals, which no tree has, and one where tokens are asked for.
             let is_seen = changed(&mut tree, fault) > 0;
-            assert_eq!(is_seen, fault != Fault::Place, "{name}");
+            assert_eq!(is_seen, !matches!(fault, Fault::Place | Fault::Token), "{name}");
         }
+        let mut told = tree.innermost(0, 2);
+        Fault::Token.plant_in_number("NODE_AT_TOKEN", &mut told);
+        assert_ne!(told, tree.innermost(0, 2));
     }
 }

@@ -1,6 +1,6 @@
 //! Prints the reference's words for the text on standard input.
 
-use oracle::{Words, try_read};
+use oracle::{NODE_WIDTH, Words, try_read};
 use std::{
     io::{self, Read},
     panic,
@@ -29,8 +29,11 @@ fn print(words: &Words, text: &str) {
         println!("{number}: {} {end} {:?}", word >> 25, &text[start..end]);
         start = end;
     }
-    println!("nodes {}: kind payload first end sibling child", words.nodes.len() / 5);
-    for (number, node) in words.nodes.chunks(5).enumerate() {
+    println!(
+        "nodes {}: kind payload first end sibling child parent",
+        words.nodes.len() / NODE_WIDTH
+    );
+    for (number, node) in words.nodes.chunks(NODE_WIDTH).enumerate() {
         println!("{number}: {} {}", headed(node[0]), joined(&node[1..]));
     }
     println!("values {}", words.values.len());

@@ -5,6 +5,7 @@ use crate::{
     cst::{NodeIdx, NodeKind},
     lexer::TokenIdx,
     views::Tree,
+    words::NODE_WIDTH,
 };
 use plank_core::{Idx, Span};
 
@@ -56,7 +57,7 @@ impl Tree {
     }
 
     fn node_words(&mut self, number: u32) -> &mut [u32] {
-        &mut self.words.nodes[5 * number as usize..][..5]
+        &mut self.words.nodes[NODE_WIDTH * number as usize..][..NODE_WIDTH]
     }
 
     fn has_ring(&self) -> bool {

@@ -10,6 +10,7 @@ use crate::{
     cst::{NodeKind, NodeView},
     lexer::TokenSpan,
     views::Tree,
+    words::NODE_WIDTH,
 };
 use plank_core::Idx;
 use plank_session::StrId;
@@ -124,6 +125,14 @@ impl<'t> Node<'t> {
         Node { tree, view }
     }
 
+    pub fn tree(&self) -> &'t Tree {
+        self.tree
+    }
+
+    pub fn number(&self) -> u32 {
+        number(self.view)
+    }
+
     views! {
         const_decl: ConstDecl, NodeKind::ConstDecl { .. } => of_file!(Const);
         import: Import, NodeKind::ImportDecl { .. } | NodeKind::ImportAsDecl { .. } => of_file!(Import);
@@ -229,7 +238,7 @@ impl<'t> Node<'t> {
 
     /// The node's first word.
     fn head(&self) -> u32 {
-        self.tree.words.nodes[5 * self.view.idx().idx()]
+        self.tree.words.nodes[NODE_WIDTH * self.view.idx().idx()]
     }
 
     pub fn kind_number(&self) -> u32 {
@@ -285,7 +294,7 @@ impl<'t> Node<'t> {
         let found = self.tree.leaves.get(&[kind, start, end]).copied();
         let head = payload.map(|payload| kind << 26 | payload);
         found
-            .filter(|leaf| Some(self.tree.words.nodes[5 * *leaf as usize]) == head)
+            .filter(|leaf| Some(self.tree.words.nodes[NODE_WIDTH * *leaf as usize]) == head)
             .unwrap_or(NOWHERE)
     }
 

@@ -69,6 +69,8 @@ pub const NUMBERS: &[One<u32>] = &[
     one!(IDENT, |n| any(n.view.ident().and_then(|name| n.name(name)))),
     one!(EXPR, |n| any(Expr::new(n.view).and_then(|expr| n.expr(expr)))),
     one!(STRUCT_BODY, |n| n.struct_def().told(|_| struct_body(n).map(at), || None)),
+    one!(PARENT, |n| any(n.parent())),
+    one!(ENCLOSING_DECLARATION, |n| any(n.declaration())),
     // Declarations.
     one!(FILE, |n| of_kind(File::new(n.view).map(|_| at(n.view)))),
     one!(INIT_BLOCK, |n| of_kind(InitBlock::new(n.view).map(|found| at(found.body().node())))),
