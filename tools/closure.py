@@ -18,7 +18,7 @@ import sources
 
 PAGE = "docs/TRUST.md"
 # The laws that the page names as headlines: their statements are walked too.
-LAWS = [("viewed/Unrefused", "never-refused"), ("viewed/Proved", "reads-viewed"), ("viewed/Table", "tells"), ("viewed/Table", "unfailing")]
+LAWS = [("viewed/Unrefused", "never-refused"), ("viewed/Proved", "reads-viewed"), ("viewed/Walks", "reads-walked"), ("viewed/Table", "tells"), ("viewed/Table", "unfailing")]
 
 
 def public_functions():
