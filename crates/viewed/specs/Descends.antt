@@ -5,10 +5,9 @@ use mathlib.Core.Bool.{Bool, true, false}
 use mathlib.Core.List.{List}
 use Prim.Native.Nat.{ℕ, zero, suc, _+_, _-_, _*_, _≤_, _<_}
 use native.Mathlib.Omega.{arith}
-use native.Mathlib.Nat.{zero-add, suc-add, zero-mul, suc-mul}
-use native.Mathlib.Decide.{ℕ-discrete}
-use lib.Dec.{eqb}
-use borrow.Author.Tests.{eqb-true, eqb-false}
+use native.Mathlib.Nat.{zero-add, suc-add, zero-mul, suc-mul, mul-le-mul-left}
+use lib.Dec.{eqb, ltb}
+use borrow.Author.Tests.{eqb-true, eqb-false, ltb-true, ltb-false}
 use Rattle.definition.specs.Prog.{nextWord, childWord}
 use Rattle.definition.specs.Encodes.{next, parentOf}
 use Rattle.rising.specs.Linked.{Link, by-next, by-child, Child, eldest, younger}
@@ -22,19 +21,6 @@ use Rattle.walking.specs.Laws.{innermost-last, innermost-under, innermost-past}
 use Rattle.walking.specs.Rings.{down, down-below}
 use Rattle.viewed.specs.Looks.{next-same, child-same, looked, child-inside, next-inside}
 use Rattle.viewed.specs.Walked.{Innermost, Under, itself, below}
-
-either-way : (j k : ℕ) → (j ≤ k) ⊎ (k ≤ j)
-either-way zero k = inl (omega arith)
-either-way (suc j) zero = inr (omega arith)
-either-way (suc j) (suc k) = go (either-way j k)
-  where
-    go : (j ≤ k) ⊎ (k ≤ j) → (suc j ≤ suc k) ⊎ (suc k ≤ suc j)
-    go (inl a) = inl (omega arith)
-    go (inr a) = inr (omega arith)
-
-least-mul : (m j : ℕ) → 0 < j → m ≤ m * j
-least-mul zero j z = omega arith
-least-mul (suc m) j z = rw suc-mul (omega (arith, least-mul m j z))
 
 module _ (ns : List ℕ) (count : ℕ) (sound : Sound ns count) (f : Family ns count) (t : ℕ) where
   abbrev on : ℕ → ℕ
@@ -98,7 +84,8 @@ module _ (ns : List ℕ) (count : ℕ) (sound : Sound ns count) (f : Family ns c
   no-ring : (j n : ℕ) → n < count → 0 < j → climb ns j n ≡ n → n ≡ 0
   no-ring j n l z e =
       let r : climb ns (count * j) n ≡ n = again-up j n e count in
-      let d : count * j ≡ count + (count * j - count) = omega (arith, least-mul count j z) in
+      let m : count * 1 ≤ count * j = mul-le-mul-left count z in
+      let d : count * j ≡ count + (count * j - count) = omega arith in
       sym r ∙ ap (λ (k : ℕ). climb ns k n) d ∙ climb-on count (count * j - count) n ∙ ap (climb ns (count * j - count)) (f .climbs n l) ∙ climb-file ns (f .file) (count * j - count)
 
   -- ---- the way from the first child of a node
@@ -178,12 +165,12 @@ module _ (ns : List ℕ) (count : ℕ) (sound : Sound ns count) (f : Family ns c
           never-back j k (omega arith) (omega arith) (one (at j) (at k) (x .0) (y .0) (on (at k)) z (on-inside (at k) (at-inside k)) (rw s at (x .1)) (y .1))
 
       different : (j k : ℕ) → j < View.count ns + 1 → k < View.count ns + 1 → at j ≡ at k → j ≡ k
-      different j k h i e = go (ℕ-discrete j k) (either-way j k)
+      different j k h i e = go (ltb j k) (ltb k j) refl refl
         where
-          go : Dec (j ≡ k) → (j ≤ k) ⊎ (k ≤ j) → j ≡ k
-          go (yes q) t = q
-          go (no q) (inl a) = absurd (never-back j k (omega (arith, q)) i e)
-          go (no q) (inr a) = absurd (never-back k j (omega (arith, q)) h (sym e))
+          go : (a b : Bool) → ltb j k ≡ a → ltb k j ≡ b → j ≡ k
+          go true b p q = absurd (never-back j k (ltb-true j k p) i e)
+          go false true p q = absurd (never-back k j (ltb-true k j q) h (sym e))
+          go false false p q = omega (arith, ltb-false j k p, ltb-false k j q)
 
       too-many : View.count ns + 1 ≤ count
       too-many = pigeons count (View.count ns + 1) at (λ k h. at-inside k) different

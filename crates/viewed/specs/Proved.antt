@@ -2,12 +2,10 @@
 use mathlib.Core.Path.{_≡_, refl, sym, _∙_, ap}
 use mathlib.Core.Option as Option
 use mathlib.Core.List.{List}
-use Prim.Native.Nat.{ℕ, suc, _*_, _≤_, _<_}
+use Prim.Native.Nat.{ℕ, suc, _≤_, _<_}
 use native.Mathlib.Omega.{arith}
 use lib.ListN.{getD, take}
-use lib.Seq.{getD-drop}
-use Rattle.words.specs.Words.{nodeWidth}
-use Rattle.definition.specs.Prog.{nextWord, childWord}
+use Rattle.definition.specs.Prog.{childWord}
 use Rattle.definition.specs.Encodes as Encodes
 use Rattle.chart.specs.Tree.{Trees}
 use Rattle.tree.specs.Stored.{stored}
@@ -21,7 +19,7 @@ use Rattle.rising.specs.Sound.{Sound}
 use Rattle.looking.specs.View.{turns}
 use Rattle.viewed.specs.Numbered.{Place, Row, place, from, Within, itself, below, beside, ChildOf, label, children, after}
 use Rattle.viewed.specs.Numbered as Numbered
-use Rattle.viewed.specs.Looks.{looked, child-inside, next-inside, reads-sound}
+use Rattle.viewed.specs.Looks.{next-same, child-same, looked, child-inside, next-inside, reads-sound}
 use Rattle.viewed.specs.Stands.{Heads, nobody, somebody, one-place, file-held}
 use Rattle.viewed.specs.Answers.{Held, held, is-answer, answers}
 use Rattle.viewed.specs.Viewed.{Viewed, Views}
@@ -50,11 +48,11 @@ module _ (text tokens values ns : List ℕ) where
 
     child-of : {i : ℕ} (q : Place) → Within root q → getD ns (Encodes.place (label q .number) childWord) 0 ≡ i → Placed i
     child-of (place l k v cs us) w e =
-        linked (within-held whole w .below) (getD-drop (nodeWidth * l .number) ns childWord 0 ∙ e) (λ p q. below (rw q at w))
+        linked (within-held whole w .below) (child-same ns (l .number) ∙ e) (λ p q. below (rw q at w))
 
     next-of : {i : ℕ} (q : Place) → Within root q → Encodes.next ns (label q .number) ≡ i → Placed i
     next-of (place l k v cs us) w e =
-        linked (within-held whole w .beside) (getD-drop (nodeWidth * l .number) ns nextWord 0 ∙ e) (λ p q. beside (rw q at w))
+        linked (within-held whole w .beside) (next-same ns (l .number) ∙ e) (λ p q. beside (rw q at w))
 
     -- A link to a row leads to its first place.
     leads : {b n : ℕ} {r : Row} {q : Place} → Heads text tokens values ns b n r → r ≡ from q → (0 < n) × (n ≡ label q .number)
@@ -68,12 +66,12 @@ module _ (text tokens values ns : List ℕ) where
     first-child : (p q : Place) → Within root p → children p ≡ from q → Below p q
     first-child (place l k v cs us) q w e =
         let (z, f) = leads (within-held whole w .below) e in
-        (below (rw e at w), eldest (rw f at z) (sym (getD-drop (nodeWidth * l .number) ns childWord 0) ∙ f))
+        (below (rw e at w), eldest (rw f at z) (sym (child-same ns (l .number)) ∙ f))
 
     next-child : (p q r : Place) → Below p q → after q ≡ from r → Below p r
     next-child p (place l k v cs us) r (w, c) e =
         let (z, f) = leads (within-held whole w .beside) e in
-        (beside (rw e at w), younger c (rw f at z) (sym (getD-drop (nodeWidth * l .number) ns nextWord 0) ∙ f))
+        (beside (rw e at w), younger c (rw f at z) (sym (next-same ns (l .number)) ∙ f))
 
     child-placed : (p q : Place) → Within root p → ChildOf p q → Below p q
     child-placed p q w (Numbered.eldest e) = first-child p q w e
