@@ -3,8 +3,12 @@ use mathlib.Core.Path.{_≡_, refl}
 use mathlib.Core.List.{List, [], _∷_, _++_, map}
 use Prim.Native.Nat.{ℕ}
 use Rattle.words.specs.Token as TokenKind
-use Rattle.utf8.specs.Utf8.{has, follow, sequenceBy, table, leadBits, joined, codePoint, characterAt}
+use Rattle.words.specs.Refusal
+use Rattle.words.specs.Answer.{refused}
+use Rattle.words.specs.Order.{counted}
+use Rattle.utf8.specs.Utf8.{has, follow, sequenceBy, table, checkedFrom, leadBits, joined, codePoint, characterAt}
 use Rattle.scan.specs.Bytes.{ascii, digit, upper, lower, identStart, identPart, blank, isDigit}
+use Rattle.lexer.specs.Lex.{lexed}
 use Rattle.scan.specs.Lexer.{tokensOf, tokensFrom, tokenAt, longest, rules, punctuation, keywords, others, matched, spelled, classed, run, string, number, blockComment, lineComment, invalidChar}
 
 -- A case: its text, and the kinds and ends of its tokens but Eof.
@@ -59,3 +63,47 @@ expected c = (c .kinds ++ (TokenKind.Eof ∷ []), c .ends ++ (last (c .ends) ∷
 cases-hold : map given table-of-cases ≡ map expected table-of-cases
 unfolding table-of-cases lexes given expected last tokensOf tokensFrom tokenAt longest rules punctuation keywords others matched spelled classed run identStart identPart blank digit upper lower isDigit lineComment blockComment number string invalidChar has follow sequenceBy table leadBits joined codePoint characterAt
 cases-hold = refl
+
+-- The smallest texts that aren't UTF-8 in each way (01, W1), with the refusal's number.
+smallest : List (List ℕ × ℕ)
+smallest =
+    (0x80 ∷ [], Refusal.NotUtf8Start)
+    ∷ (0xC0 ∷ [], Refusal.NotUtf8Start)
+    ∷ (0xF5 ∷ [], Refusal.NotUtf8Start)
+    ∷ (0xE0 ∷ 0x80 ∷ [], Refusal.NotUtf8Later)
+    ∷ (0xED ∷ 0xA0 ∷ [], Refusal.NotUtf8Later)
+    ∷ (0xF4 ∷ 0x90 ∷ [], Refusal.NotUtf8Later)
+    ∷ (0xE2 ∷ 0x82 ∷ 0x41 ∷ [], Refusal.NotUtf8Later)
+    ∷ (0xC2 ∷ [], Refusal.NotUtf8Cut)
+    ∷ (0xE2 ∷ 0x82 ∷ [], Refusal.NotUtf8Cut)
+    ∷ (0xF0 ∷ 0x9F ∷ 0x92 ∷ [], Refusal.NotUtf8Cut)
+    ∷ []
+
+-- `aé木🌲`, ten bytes: a character of each length.
+good : List ℕ
+good = 0x61 ∷ 0xC3 ∷ 0xA9 ∷ 0xE6 ∷ 0x9C ∷ 0xA8 ∷ 0xF0 ∷ 0x9F ∷ 0x8C ∷ 0xB2 ∷ []
+
+-- Alone and behind good text: "The place stays the start of the bad sequence" (01, W1).
+smallest-refused : map (λ c. lexed (c .0) 0) smallest ≡ map (λ c. refused (c .1) 0) smallest
+unfolding smallest lexed checkedFrom has follow sequenceBy table
+smallest-refused = refl
+
+smallest-behind : map (λ c. lexed (good ++ c .0) 0) smallest ≡ map (λ c. refused (c .1) 10) smallest
+unfolding smallest good lexed checkedFrom has follow sequenceBy table
+smallest-behind = refl
+
+-- Each byte above ASCII alone: 80 to C1 and F5 to FF start no sequence, and the text ends inside the one that each other starts.
+alone : (first size number : ℕ) → Type 0
+alone first size number = map (λ b. lexed (b ∷ []) 0) (counted first size) ≡ map (λ b. refused number 0) (counted first size)
+
+no-start : alone 0x80 66 Refusal.NotUtf8Start
+unfolding alone lexed checkedFrom has follow sequenceBy table
+no-start = refl
+
+starts : alone 0xC2 51 Refusal.NotUtf8Cut
+unfolding alone lexed checkedFrom has follow sequenceBy table
+starts = refl
+
+past-the-table : alone 0xF5 11 Refusal.NotUtf8Start
+unfolding alone lexed checkedFrom has follow sequenceBy table
+past-the-table = refl

@@ -20,18 +20,19 @@ use Rattle.scan.specs.Lexer.{tokensOf, word}
 abbrev pub longestText : ℕ
 longestText = 65536
 
--- "1 not UTF-8", in whichever way it isn't.
+-- "Refusal 1 keeps a byte that starts no sequence (RFC 3629)." "It refuses with 9 where a later byte of a sequence isn't allowed, and with 10 where
+-- the text ends inside a sequence that was right so far." (01, W1)
 abbrev pub notUtf8 : Way → ℕ
-notUtf8 NoStart = Refusal.NotUtf8
-notUtf8 NotAllowed = Refusal.NotUtf8
-notUtf8 Cut = Refusal.NotUtf8
+notUtf8 NoStart = Refusal.NotUtf8Start
+notUtf8 NotAllowed = Refusal.NotUtf8Later
+notUtf8 Cut = Refusal.NotUtf8Cut
 
 -- The number and values that document 01 has for an answer.
 abbrev pub answer : Lexed → Answer
 answer (Tokens n) = done (n ∷ [])
 answer (Refused number place) = refused number place
 
--- "Order: 2, 1, 4." "Lexing alone gives only 2, 1, 4."
+-- "Order: 2, 1, 4." "Lexing alone gives only 2, 1, 4." "01's order treats all three as it treated 1" (01, W1).
 -- "2 over 65,536 bytes (65,536)", "1 not UTF-8 (offset where the first bad sequence starts)",
 -- "4 tokens don't fit (words needed, Eof included)"; `lent` is how many words are lent.
 unfoldable pub lexed : List ℕ → ℕ → Answer

@@ -58,14 +58,14 @@ fn fill(text: &[u8], words: &mut [u32]) -> usize
     n + 1
 }
 
-// The number of the refusal of a text that isn't UTF-8, in whichever way.
+// The number of the refusal of a text that isn't UTF-8, by the way in which it isn't.
 fn not_utf8(way: Way) -> u32
     ensures { λ r. ⌜ r ≡ notUtf8 way ⌝ }
 {
     match way {
-        Way::NoStart => refusal::NOT_UTF8,
-        Way::NotAllowed => refusal::NOT_UTF8,
-        Way::Cut => refusal::NOT_UTF8,
+        Way::NoStart => refusal::NOT_UTF8_START,
+        Way::NotAllowed => refusal::NOT_UTF8_LATER,
+        Way::Cut => refusal::NOT_UTF8_CUT,
     }
 }
 

@@ -165,12 +165,15 @@ Error
 ";
 
 // Why a text is refused, by the refusal's number.
-pub const REFUSALS: [u8; 206] = *b"it is not known why
-the text is not UTF-8
+pub const REFUSALS: [u8; 364] = *b"it is not known why
+it is in another encoding than UTF-8: no character starts
 the text is longer than 65536 bytes
 it is nested too deep
 it has too many tokens
 it has too many nodes
 its numbers and strings are too long
 it has too many reports
+its node words were altered
+it is in another encoding than UTF-8: a character is broken
+it was cut off inside a character
 ";

@@ -156,7 +156,9 @@ fn print_place(text: &[u8], unit: &[u8], number: u32, offset: usize) {
 
 fn print_refusal_place(text: &[u8], tokens: &mut [u32], number: u32, place: u32) {
     match number {
-        refusal::NOT_UTF8 => print_place(text, b" at byte ", place, place as usize),
+        refusal::NOT_UTF8_START | refusal::NOT_UTF8_LATER | refusal::NOT_UTF8_CUT => {
+            print_place(text, b" at byte ", place, place as usize)
+        }
         refusal::TOO_LONG => print::bytes(b"\n"),
         _ => {
             let start = start_of_token(text, tokens, place);

@@ -48,7 +48,7 @@ after lent tokens n p (refused number place) = nothing lent number place
 abbrev pub parsing : List ℕ → Lent → List ℕ → ℕ → Parsed
 parsing text lent tokens n = parsed text (take n tokens) (lent .nodes) (lent .values) (lent .reports)
 
--- "Order: 2, 1, 4", then whichever of 3, 5, 6, 7 comes first (01, Refusals).
+-- "Order: 2, 1, 4", with 9 and 10 where 1 stands (01, W1), then whichever of 3, 5, 6, 7 comes first (01, Refusals).
 unfoldable pub afterLexing : List ℕ → Lent → List ℕ → Answer → Read
 afterLexing text lent tokens (refused number place) = nothing lent number place
 afterLexing text lent tokens (done counts) =

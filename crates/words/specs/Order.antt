@@ -108,9 +108,9 @@ reports :
     ≡ counted 1 16
 reports = refl
 
--- The refusals of 01, Refusals, by who can cause them.
+-- The refusals of 01, Refusals, by who can cause them, then those of W1.
 refusals :
-    Refusal.NotUtf8 ∷ Refusal.TooLong ∷ Refusal.TooDeep ∷ Refusal.TokensDontFit ∷ Refusal.NodesDontFit ∷ Refusal.ValuesDontFit
-    ∷ Refusal.ReportsDontFit ∷ Refusal.AlteredNodes ∷ []
-    ≡ counted 1 8
+    Refusal.NotUtf8Start ∷ Refusal.TooLong ∷ Refusal.TooDeep ∷ Refusal.TokensDontFit ∷ Refusal.NodesDontFit ∷ Refusal.ValuesDontFit
+    ∷ Refusal.ReportsDontFit ∷ Refusal.AlteredNodes ∷ Refusal.NotUtf8Later ∷ Refusal.NotUtf8Cut ∷ []
+    ≡ counted 1 10
 refusals = refl
