@@ -7,7 +7,8 @@ use lexer::Lexed;
 use libc::STDOUT_FILENO;
 use words::refusal;
 
-// Where a record's parts lie in the data: the text, and the words of its tokens.
+// Where a record's parts lie in the data: the text, and the words of its tokens; of a text that is refused, which has 0 for the
+// number of tokens, the refusal's number and place.
 struct Record {
     start: usize,
     end: usize,
@@ -29,7 +30,7 @@ enum Turn {
 }
 
 // The most bytes of data that are read.
-const LONGEST_DATA: usize = 131072;
+const LONGEST_DATA: usize = 196608;
 
 // What the lent words hold before each call: no token's word.
 const PATTERN: u32 = 0xa5a5a5a5;
@@ -48,6 +49,14 @@ pub(crate) fn number(file: &[u8], at: usize) -> u32
         + wide(file[at + 1]) * 256
         + wide(file[at + 2]) * 65536
         + wide(file[at + 3]) * 16777216
+}
+
+// How many words a record has behind the number of its tokens.
+fn words_of(count: u32) -> u32 {
+    if count == 0 {
+        return 2;
+    }
+    count
 }
 
 // The record at a place, or that the data end inside it.
@@ -71,18 +80,19 @@ fn record_at(file: &[u8], at: usize) -> Found
     if size < padded + 4 {
         return Found::Cut;
     }
-    let count = number(file, padded) as usize;
+    let count = number(file, padded);
     let words = padded + 4;
-    if size - words < count * 4 {
+    let bytes = words_of(count) as usize * 4;
+    if size - words < bytes {
         return Found::Cut;
     }
-    let next = words + count * 4;
+    let next = words + bytes;
     Found::At(Record {
         start,
         end,
         words,
         next,
-        count,
+        count: count as usize,
     })
 }
 
@@ -130,16 +140,16 @@ fn is_given(text: &[u8], recorded: &[u8], count: usize, tokens: &mut [u32]) -> b
     }
 }
 
-// Whether the lexer refuses with the number of tokens where they don't fit, and leaves 0 in every word.
-fn is_refused(text: &[u8], count: usize, tokens: &mut [u32]) -> bool {
+// Whether the lexer refuses with this number and place, and leaves 0 in every word.
+fn is_refused(text: &[u8], number: u32, place: usize, tokens: &mut [u32]) -> bool {
     mark(tokens);
     match lexer::lex(text, tokens) {
         Lexed::Tokens(_) => false,
-        Lexed::Refused(number, place) => {
-            if number != refusal::TOKENS_DONT_FIT {
+        Lexed::Refused(by, at) => {
+            if by != number {
                 return false;
             }
-            if place != count {
+            if at != place {
                 return false;
             }
             is_recorded(tokens, &[])
@@ -147,10 +157,20 @@ fn is_refused(text: &[u8], count: usize, tokens: &mut [u32]) -> bool {
     }
 }
 
+// Whether the lexer refuses as recorded, with no words and with plenty.
+fn is_always_refused(text: &[u8], recorded: &[u8], tokens: &mut [u32]) -> bool {
+    let number = word_at(recorded, 0);
+    let place = word_at(recorded, 1) as usize;
+    if !is_refused(text, number, place, &mut tokens[..0]) {
+        return false;
+    }
+    is_refused(text, number, place, tokens)
+}
+
 // Whether the lexer answers as recorded with exactly as many words as needed, one more, one less, and none.
 fn is_same(text: &[u8], recorded: &[u8], count: usize, tokens: &mut [u32]) -> bool {
     if count == 0 {
-        return false;
+        return is_always_refused(text, recorded, tokens);
     }
     if tokens.len() <= count {
         return false;
@@ -163,10 +183,10 @@ fn is_same(text: &[u8], recorded: &[u8], count: usize, tokens: &mut [u32]) -> bo
         return false;
     }
     let less = count - 1;
-    if !is_refused(text, count, &mut tokens[..less]) {
+    if !is_refused(text, refusal::TOKENS_DONT_FIT, count, &mut tokens[..less]) {
         return false;
     }
-    is_refused(text, count, &mut tokens[..0])
+    is_refused(text, refusal::TOKENS_DONT_FIT, count, &mut tokens[..0])
 }
 
 fn is_record_same(file: &[u8], r: Record, tokens: &mut [u32]) -> bool
@@ -245,7 +265,7 @@ fn replay_all(file: &[u8]) {
         print_cut(0);
         return;
     }
-    let mut tokens = [0u32; 32768];
+    let mut tokens = [0u32; 49152];
     replay(file, &mut tokens, number(file, 0));
 }
 
@@ -257,7 +277,7 @@ pub(crate) fn replay_lexed() {
         return;
     }
     // One byte more than is taken shows that there is more.
-    let mut file = [0u8; 131073];
+    let mut file = [0u8; 196609];
     let n = io::read_full(fd, &mut file);
     libc::close(fd);
     if LONGEST_DATA < n {

@@ -1,8 +1,9 @@
 //! What a call answers and leaves in the lent slice, and what it should, by the reference.
 
+use crate::utf8;
+
 pub const MOST_BYTES: usize = 65_536;
 
-pub const NOT_UTF8: u32 = 1;
 pub const TOO_LONG: u32 = 2;
 pub const TOKENS_DONT_FIT: u32 = 4;
 
@@ -44,9 +45,9 @@ impl Reference {
         if text.len() > MOST_BYTES {
             return Reference::Refused { number: TOO_LONG, place: MOST_BYTES };
         }
-        match str::from_utf8(text) {
+        match utf8::checked(text) {
             Ok(text) => Reference::Tokens(lexer(text)),
-            Err(error) => Reference::Refused { number: NOT_UTF8, place: error.valid_up_to() },
+            Err((number, place)) => Reference::Refused { number, place },
         }
     }
 

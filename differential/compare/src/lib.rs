@@ -11,6 +11,7 @@ mod read;
 mod record;
 mod run;
 mod shrink;
+mod utf8;
 mod views;
 
 use options::Command;

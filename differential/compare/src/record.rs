@@ -1,9 +1,16 @@
-//! Writes a fixed sample of the reference's tokens, for a replay by another program.
+//! Writes a fixed sample of the reference's tokens, and of texts that are refused whatever is
+//! lent, for a replay by another program.
 //!
 //! All numbers are 4 bytes, least first: the number of records; then for each the length of
-//! the text, its bytes padded with 0 to a multiple of 4, the number of tokens, their words.
+//! the text, its bytes padded with 0 to a multiple of 4, the number of tokens, their words. A
+//! text that is refused has 0 for the number of tokens, and behind it the refusal's number and
+//! place.
 
-use crate::fuzzed;
+use crate::{
+    answer::{MOST_BYTES, Reference},
+    fuzzed,
+    utf8::SMALLEST,
+};
 use generate::{TOKENS, Texts};
 use std::{collections::HashSet, fs, path::Path, process::ExitCode};
 
@@ -23,8 +30,11 @@ const CORNERS: &[&str] = &[
     "\u{feff}a", "\u{a0}\u{2028}", "\0\x0b\x0c\x7f", " \t\r\n",
 ];
 
+/// Good text with a character of each length, for bad sequences to stand behind.
+const GOOD: &str = "const é = \"木\"; // 🌲\n";
+
 pub fn write(file: &Path) -> ExitCode {
-    let texts = sample();
+    let texts: Vec<Vec<u8>> = sample().into_iter().map(Vec::from).chain(refused()).collect();
     save(file, texts.len(), &encode(&texts))
 }
 
@@ -53,15 +63,30 @@ fn sample() -> Vec<String> {
     texts.chain(fuzzed::LEXED.iter().map(|text| text.to_string())).collect()
 }
 
-fn encode(texts: &[String]) -> Vec<u8> {
+/// The smallest texts that aren't UTF-8 in each way, alone and behind good text, and one that is
+/// cut and one byte too long.
+fn refused() -> Vec<Vec<u8>> {
+    let smallest = |before: &str| SMALLEST.map(|(_, text)| [before.as_bytes(), text].concat());
+    let cut = "→".bytes().take(2);
+    let too_long = " ".bytes().cycle().take(MOST_BYTES - 1).chain(cut).collect();
+    [smallest("").to_vec(), smallest(GOOD).to_vec(), vec![too_long]].concat()
+}
+
+fn encode(texts: &[Vec<u8>]) -> Vec<u8> {
     let mut bytes = number(texts.len()).to_vec();
     for text in texts {
-        let tokens = oracle::lex(text);
         bytes.extend(number(text.len()));
-        bytes.extend(text.as_bytes());
+        bytes.extend(text);
         bytes.resize(bytes.len().next_multiple_of(4), 0);
-        bytes.extend(number(tokens.len()));
-        bytes.extend(tokens.iter().flat_map(|word| word.to_le_bytes()));
+        match Reference::of(text, oracle::lex) {
+            Reference::Tokens(tokens) => {
+                bytes.extend(number(tokens.len()));
+                bytes.extend(tokens.iter().flat_map(|word| word.to_le_bytes()));
+            }
+            Reference::Refused { number: refusal, place } => {
+                bytes.extend([0, refusal as usize, place].into_iter().flat_map(number));
+            }
+        }
     }
     bytes
 }
@@ -73,9 +98,10 @@ pub fn number(value: usize) -> [u8; 4] {
 #[cfg(test)]
 mod tests {
     use super::*;
+    use crate::answer::TOO_LONG;
 
     /// More the replaying program doesn't take.
-    const LONGEST_DATA: usize = 131_072;
+    const LONGEST_DATA: usize = 196_608;
 
     #[test]
     fn the_sample_has_every_kind_of_token() {
@@ -87,13 +113,35 @@ mod tests {
     #[test]
     fn the_sample_is_small() {
         assert_eq!(sample().len(), RECORDS + fuzzed::LEXED.len());
-        assert!(encode(&sample()).len() <= LONGEST_DATA);
+        let texts: Vec<Vec<u8>> = sample().into_iter().map(Vec::from).chain(refused()).collect();
+        assert!(encode(&texts).len() <= LONGEST_DATA);
     }
 
     #[test]
     fn a_record() {
         let expected = [1, 5, 0x6c65_7322, 0x22, 2, 70 << 25 | 5, 81 << 25 | 5];
         let expected: Vec<u8> = expected.iter().flat_map(|word: &u32| word.to_le_bytes()).collect();
-        assert_eq!(encode(&["\"sel\"".to_string()]), expected);
+        assert_eq!(encode(&[b"\"sel\"".to_vec()]), expected);
+    }
+
+    #[test]
+    fn the_record_of_a_refusal() {
+        let expected = [1, 3, 0x0082_e241, 0, 10, 1];
+        let expected: Vec<u8> = expected.iter().flat_map(|word: &u32| word.to_le_bytes()).collect();
+        assert_eq!(encode(&[b"A\xe2\x82".to_vec()]), expected);
+    }
+
+    #[test]
+    fn each_text_is_refused_as_it_should_be() {
+        let alone = SMALLEST.map(|(number, _)| (number, 0));
+        let behind = SMALLEST.map(|(number, _)| (number, GOOD.len()));
+        let expected = alone.into_iter().chain(behind).chain([(TOO_LONG, MOST_BYTES)]);
+        for (text, expected) in refused().iter().zip(expected) {
+            match Reference::of(text, oracle::lex) {
+                Reference::Refused { number, place } => assert_eq!((number, place), expected),
+                Reference::Tokens(_) => panic!("{text:x?}"),
+            }
+        }
+        assert_eq!(refused().len(), 2 * SMALLEST.len() + 1);
     }
 }

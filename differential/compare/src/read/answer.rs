@@ -2,8 +2,9 @@
 //! reference.
 
 use crate::{
-    answer::{MOST_BYTES, NOT_UTF8, TOKENS_DONT_FIT, TOO_LONG},
+    answer::{MOST_BYTES, TOKENS_DONT_FIT, TOO_LONG},
     library::COUNT_FILL,
+    utf8,
 };
 use oracle::{End, Lengths, NODE_WIDTH, Refusal, Run, Words};
 
@@ -56,8 +57,8 @@ impl Answer {
         if text.len() > MOST_BYTES {
             return Some(Answer::refused(refusal(TOO_LONG, MOST_BYTES), lent));
         }
-        let error = str::from_utf8(text).err()?;
-        Some(Answer::refused(refusal(NOT_UTF8, error.valid_up_to()), lent))
+        let (number, place) = utf8::checked(text).err()?;
+        Some(Answer::refused(refusal(number, place), lent))
     }
 
     fn done(tokens: &[u32], words: &Words, lent: Lent) -> Answer {

@@ -37,9 +37,16 @@ pub fn first_difference(text: &str, fault: Option<Fault>, tally: &mut Tally) -> 
 }
 
 /// The same for a text that is too long or isn't UTF-8: `read` refuses it whatever is lent.
-pub fn first_difference_unreadable(text: &[u8], tally: &mut Tally) -> Option<Difference> {
+pub fn first_difference_unreadable(
+    text: &[u8],
+    fault: Option<Fault>,
+    tally: &mut Tally,
+) -> Option<Difference> {
     lent_to_unreadable(text).into_iter().find_map(|lent| {
-        let expected = Answer::unreadable(text, lent)?;
+        let mut expected = Answer::unreadable(text, lent)?;
+        if let Some(fault) = fault {
+            fault.plant_in_answer(&[], &mut expected);
+        }
         tally.add_call(expected.number);
         let found = library::read(text, lent);
         let is_same = expected == found;

@@ -1,6 +1,9 @@
 //! Planted faults in the reference's answers, to show that the comparison can fail.
 
-use crate::read::answer::Answer;
+use crate::{
+    read::answer::Answer,
+    utf8::{CUT, NOT_ALLOWED},
+};
 use oracle::{End, NODE_WIDTH, Run, Step};
 
 const BINARY_EXPR: u32 = 15;
@@ -34,9 +37,11 @@ pub enum Fault {
     Kept,
     /// The counts of value words and reports are exchanged.
     Counts,
+    /// A text that is cut inside a character is refused as one with a byte that isn't allowed.
+    Cut,
 }
 
-pub const FAULTS: [(&str, Fault); 12] = [
+pub const FAULTS: [(&str, Fault); 13] = [
     ("link", Fault::Link),
     ("parent", Fault::Parent),
     ("span", Fault::Span),
@@ -49,6 +54,7 @@ pub const FAULTS: [(&str, Fault); 12] = [
     ("depth", Fault::Depth),
     ("kept", Fault::Kept),
     ("counts", Fault::Counts),
+    ("cut", Fault::Cut),
 ];
 
 impl Fault {
@@ -78,7 +84,7 @@ impl Fault {
     /// The faults that show only in an answer.
     pub fn plant_in_answer(self, tokens: &[u32], answer: &mut Answer) {
         match (self, answer.number) {
-            (Fault::Kept, 3 | 5..) => {
+            (Fault::Kept, 3 | 5..=7) => {
                 let kept = answer.tokens.len().min(tokens.len());
                 answer.tokens[..kept].copy_from_slice(&tokens[..kept]);
             }
@@ -86,6 +92,7 @@ impl Fault {
                 let last = answer.counts.len() - 1;
                 answer.counts.swap(last - 1, last);
             }
+            (Fault::Cut, CUT) => answer.number = NOT_ALLOWED,
             _ => {}
         }
     }
@@ -149,7 +156,7 @@ mod tests {
     #[test]
     fn each_fault_changes_something() {
         let deep = format!("const a = {};", "(".repeat(256));
-        for (name, fault) in FAULTS {
+        for (name, fault) in FAULTS.into_iter().filter(|(_, fault)| *fault != Fault::Cut) {
             let text = match fault {
                 Fault::Depth => deep.as_str(),
                 _ => "const a: b = (c - 18446744073709551618); init { d e } const f = ;",
@@ -162,5 +169,14 @@ mod tests {
             changed.iter_mut().for_each(|answer| fault.plant_in_answer(&run.tokens, answer));
             assert!(changed != plain, "{name}");
         }
+    }
+
+    #[test]
+    fn the_fault_of_a_cut_text() {
+        let lent = lent_for(&oracle::run(""), oracle::run("").need());
+        let refused = |text| Answer::unreadable(text, lent).expect("not UTF-8");
+        let mut planted = refused(b"\xe2\x82");
+        Fault::Cut.plant_in_answer(&[], &mut planted);
+        assert_eq!(planted, refused(b"\xe2A"));
     }
 }

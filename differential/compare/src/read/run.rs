@@ -51,6 +51,6 @@ pub fn difference(text: &[u8]) -> Option<impl fmt::Display> {
 fn difference_in(text: &[u8], fault: Option<Fault>, tally: &mut Tally) -> Option<Difference> {
     match str::from_utf8(text) {
         Ok(readable) if text.len() <= MOST_BYTES => first_difference(readable, fault, tally),
-        _ => first_difference_unreadable(text, tally),
+        _ => first_difference_unreadable(text, fault, tally),
     }
 }
