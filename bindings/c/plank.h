@@ -262,14 +262,16 @@ enum plank_error_tokens {
 
 /* The refusals (crates/words/src/refusal.rt), with what their place is. */
 enum plank_refusals {
-    PLANK_REFUSAL_NOT_UTF8 = 1,         /* the text is not UTF-8; offset of the first bad sequence */
+    PLANK_REFUSAL_NOT_UTF8_START = 1,   /* a byte starts no sequence of UTF-8; its offset */
     PLANK_REFUSAL_TOO_LONG = 2,         /* the text is over PLANK_MAX_TEXT bytes; PLANK_MAX_TEXT */
     PLANK_REFUSAL_TOO_DEEP = 3,         /* nested too deep; the token that was reached */
     PLANK_REFUSAL_TOKENS_DONT_FIT = 4,  /* the words that are needed, Eof included */
     PLANK_REFUSAL_NODES_DONT_FIT = 5,   /* the token that was reached */
     PLANK_REFUSAL_VALUES_DONT_FIT = 6,  /* the token that was reached */
     PLANK_REFUSAL_REPORTS_DONT_FIT = 7, /* the token that was reached */
-    PLANK_REFUSAL_ALTERED_NODES = 8     /* only from views; the node that was looked at */
+    PLANK_REFUSAL_ALTERED_NODES = 8,    /* only from views; the node that was looked at */
+    PLANK_REFUSAL_NOT_UTF8_LATER = 9,   /* a later byte of a sequence isn't allowed; offset where the sequence starts */
+    PLANK_REFUSAL_NOT_UTF8_CUT = 10     /* the text ends inside a sequence; offset where the sequence starts */
 };
 
 /* The accessors (crates/accessors/src/number.rt). */
@@ -471,13 +473,13 @@ static inline uint32_t plank_place(uint64_t answer) {
 
 /* ---- The library's own symbols. Slices are two parameters, pointer and length; see above for what they promise. */
 
-/* Lexes a text. The number of tokens, which stand first in `tokens` with 0 behind them; or refusal 2, 1 or 4, which
- * leaves all of `tokens` 0. */
+/* Lexes a text. The number of tokens, which stand first in `tokens` with 0 behind them; or refusal 2, 1, 9, 10
+ * or 4, which leaves all of `tokens` 0. */
 uint64_t plank_lex(const uint8_t *text, size_t text_len, uint32_t *tokens, size_t tokens_len);
 
 /* Reads a text. 0, and the four slices written, each with 0 behind what was made, and in `counts`, if it has four
- * numbers, how many tokens, nodes, value words and reports there are. Or a refusal from 1 to 7, which leaves all of
- * the four slices 0 and `counts` as it was. */
+ * numbers, how many tokens, nodes, value words and reports there are. Or a refusal from 1 to 7, 9 or 10, which
+ * leaves all of the four slices 0 and `counts` as it was. */
 uint64_t plank_read(const uint8_t *text, size_t text_len, uint32_t *tokens, size_t tokens_len, uint32_t *nodes,
                     size_t nodes_len, uint32_t *values, size_t values_len, uint32_t *reports, size_t reports_len,
                     uint64_t *counts, size_t counts_len);

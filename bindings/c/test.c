@@ -97,7 +97,11 @@ static void test_refusals(void) {
         CHECK(tokens[i] == 0 && values[i] == 0 && reports[i] == 0 && (i >= PLANK_NODE_WIDTH || nodes[i] == 0));
     }
     answer = plank_checked_lex((const uint8_t *)"a\xff", 2, words(tokens, WORDS));
-    CHECK(plank_refusal(answer) == PLANK_REFUSAL_NOT_UTF8 && plank_place(answer) == 1);
+    CHECK(plank_refusal(answer) == PLANK_REFUSAL_NOT_UTF8_START && plank_place(answer) == 1);
+    answer = plank_checked_lex((const uint8_t *)"a\xe2\x82" "b", 4, words(tokens, WORDS));
+    CHECK(plank_refusal(answer) == PLANK_REFUSAL_NOT_UTF8_LATER && plank_place(answer) == 1);
+    answer = plank_checked_lex((const uint8_t *)"a\xe2\x82", 3, words(tokens, WORDS));
+    CHECK(plank_refusal(answer) == PLANK_REFUSAL_NOT_UTF8_CUT && plank_place(answer) == 1);
     answer = plank_checked_lex(script, LEN, words(tokens, 3));
     CHECK(plank_refusal(answer) == PLANK_REFUSAL_TOKENS_DONT_FIT && plank_place(answer) > 3);
 }

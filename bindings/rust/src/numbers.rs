@@ -265,7 +265,7 @@ numbered! {
 numbered! {
     /// The numbers of the refusals.
     pub(crate) enum RefusalTag {
-        NotUtf8 = 1,
+        NotUtf8Start = 1,
         TooLong = 2,
         TooDeep = 3,
         TokensDontFit = 4,
@@ -273,6 +273,8 @@ numbered! {
         ValuesDontFit = 6,
         ReportsDontFit = 7,
         AlteredNodes = 8,
+        NotUtf8Later = 9,
+        NotUtf8Cut = 10,
     }
 }
 

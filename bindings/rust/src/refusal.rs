@@ -11,8 +11,18 @@ use std::fmt;
 #[derive(Debug, Clone, Copy, PartialEq, Eq, Hash)]
 #[non_exhaustive]
 pub enum Refusal {
-    /// The offset where the first bad sequence starts.
-    NotUtf8 {
+    /// A byte starts no sequence of UTF-8: the text is in another encoding. The byte's offset.
+    NotUtf8Start {
+        offset: SourceByteOffset,
+    },
+    /// A later byte of a sequence isn't allowed: the text is in another encoding. The offset where
+    /// the sequence starts.
+    NotUtf8Later {
+        offset: SourceByteOffset,
+    },
+    /// The text ends inside a sequence that was right so far: it was cut. The offset where the
+    /// sequence starts.
+    NotUtf8Cut {
         offset: SourceByteOffset,
     },
     TooLong,
@@ -49,8 +59,11 @@ impl Refusal {
     pub(crate) fn from_code(code: u64) -> Self {
         let (number, place) = ((code >> 32) as u32, code as u32);
         let token = TokenIdx::new(place);
+        let offset = SourceByteOffset::new(place);
         match RefusalTag::from_number(number) {
-            Some(RefusalTag::NotUtf8) => Refusal::NotUtf8 { offset: SourceByteOffset::new(place) },
+            Some(RefusalTag::NotUtf8Start) => Refusal::NotUtf8Start { offset },
+            Some(RefusalTag::NotUtf8Later) => Refusal::NotUtf8Later { offset },
+            Some(RefusalTag::NotUtf8Cut) => Refusal::NotUtf8Cut { offset },
             Some(RefusalTag::TooLong) if place as usize == MAX_TEXT => Refusal::TooLong,
             Some(RefusalTag::TooDeep) => Refusal::TooDeep { token },
             Some(RefusalTag::TokensDontFit) => Refusal::TokensDontFit { needed: place },
@@ -65,7 +78,9 @@ impl Refusal {
     /// 01's number.
     pub fn number(self) -> u32 {
         let tag = match self {
-            Refusal::NotUtf8 { .. } => RefusalTag::NotUtf8,
+            Refusal::NotUtf8Start { .. } => RefusalTag::NotUtf8Start,
+            Refusal::NotUtf8Later { .. } => RefusalTag::NotUtf8Later,
+            Refusal::NotUtf8Cut { .. } => RefusalTag::NotUtf8Cut,
             Refusal::TooLong => RefusalTag::TooLong,
             Refusal::TooDeep { .. } => RefusalTag::TooDeep,
             Refusal::TokensDontFit { .. } => RefusalTag::TokensDontFit,
@@ -78,10 +93,18 @@ impl Refusal {
         tag.number()
     }
 
+    /// Whether the text isn't UTF-8, in whichever way.
+    pub fn is_not_utf8(self) -> bool {
+        use Refusal::*;
+        matches!(self, NotUtf8Start { .. } | NotUtf8Later { .. } | NotUtf8Cut { .. })
+    }
+
     /// 01's place.
     pub fn place(self) -> u32 {
         match self {
-            Refusal::NotUtf8 { offset } => offset.get(),
+            Refusal::NotUtf8Start { offset }
+            | Refusal::NotUtf8Later { offset }
+            | Refusal::NotUtf8Cut { offset } => offset.get(),
             Refusal::TooLong => MAX_TEXT as u32,
             Refusal::TooDeep { token }
             | Refusal::NodesDontFit { token }
@@ -98,7 +121,15 @@ impl fmt::Display for Refusal {
     fn fmt(&self, f: &mut fmt::Formatter<'_>) -> fmt::Result {
         write!(f, "refused {}: ", self.number())?;
         match self {
-            Refusal::NotUtf8 { offset } => write!(f, "not UTF-8 at byte {offset}"),
+            Refusal::NotUtf8Start { offset } => {
+                write!(f, "not UTF-8: no character starts at byte {offset}")
+            }
+            Refusal::NotUtf8Later { offset } => {
+                write!(f, "not UTF-8: a character is broken at byte {offset}")
+            }
+            Refusal::NotUtf8Cut { offset } => {
+                write!(f, "cut off inside a character at byte {offset}")
+            }
             Refusal::TooLong => write!(f, "over {MAX_TEXT} bytes"),
             Refusal::TooDeep { token } => write!(f, "nested too deep at token {token}"),
             Refusal::TokensDontFit { needed } => write!(f, "the tokens need {needed} words"),

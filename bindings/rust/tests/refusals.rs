@@ -61,12 +61,36 @@ fn short_slices_are_refused_and_left_0() {
 }
 
 #[test]
-fn text_that_is_not_utf8_is_refused() {
-    let refusal = Refusal::NotUtf8 { offset: SourceByteOffset::new(2) };
-    assert_eq!(plank::read(b"a \x80 b"), Err(refusal));
-    assert_eq!(Lexed::lex(b"a \x80 b"), Err(refusal));
-    assert_eq!((refusal.number(), refusal.place()), (1, 2));
-    assert_eq!(refusal.to_string(), "refused 1: not UTF-8 at byte 2");
+fn text_that_is_not_utf8_is_refused_by_the_way_it_is_not() {
+    let offset = SourceByteOffset::new(2);
+    let cases: [(&[u8], Refusal, u32, &str); 3] = [
+        (
+            b"a \x80 b",
+            Refusal::NotUtf8Start { offset },
+            1,
+            "refused 1: not UTF-8: no character starts at byte 2",
+        ),
+        (
+            b"a \xe2\x82b",
+            Refusal::NotUtf8Later { offset },
+            9,
+            "refused 9: not UTF-8: a character is broken at byte 2",
+        ),
+        (
+            b"a \xe2\x82",
+            Refusal::NotUtf8Cut { offset },
+            10,
+            "refused 10: cut off inside a character at byte 2",
+        ),
+    ];
+    for (text, refusal, number, sentence) in cases {
+        assert_eq!(plank::read(text), Err(refusal));
+        assert_eq!(Lexed::lex(text), Err(refusal));
+        assert_eq!((refusal.number(), refusal.place()), (number, 2));
+        assert_eq!(refusal.to_string(), sentence);
+        assert!(refusal.is_not_utf8());
+    }
+    assert!(!Refusal::TooLong.is_not_utf8());
 }
 
 fn tree() -> ConcreteSyntaxTree {
