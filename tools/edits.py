@@ -1,5 +1,6 @@
 #!/usr/bin/env python3
-"""Checks that each must-fail edit fits its file: what it takes out stands there once, and what it puts in is something else.
+"""Checks that each must-fail edit fits its file: what it takes out stands there once, and what it puts in, in the line behind it, is
+something else.
 
     tools/edits.py
 
@@ -19,13 +20,20 @@ def wrong(path):
         if word == "file":
             text = sources.read(f"{crate}/{rest}")
         elif word == "old":
+            if old is not None:
+                yield f"{path}: nothing is put in for: {old}"
             old = rest
             if text.count(old) != 1:
                 yield f"{path}: {text.count(old)} times there: {old}"
+        elif word == "new" and old is None:
+            yield f"{path}: nothing is taken out for: {rest}"
         elif word == "new":
             if rest == old:
                 yield f"{path}: changes nothing: {old}"
             text = text.replace(old, rest)
+            old = None
+    if old is not None:
+        yield f"{path}: nothing is put in for: {old}"
 
 
 def main():
