@@ -17,8 +17,8 @@ use Rattle.utf8.specs.Laws.{bad-offset}
 use Rattle.utf8.specs.declared.Way.{Way}
 use Rattle.utf8.specs.declared.Checked.{Checked}
 use Rattle.utf8.specs.declared.Checked.the-variants.{Good, Bad}
-use Rattle.scan.specs.Lexer.{tokensOf, word}
-use Rattle.lexer.specs.Lex.{longestText, notUtf8, lexed, lexedWords, startOf, covers, spellingOf, spellingStart, Begins}
+use Rattle.scan.specs.Lexer.{longestText, tokensOf, word}
+use Rattle.lexer.specs.Lex.{notUtf8, lexed, lexedWords, startOf, covers, spellingOf, spellingStart, Begins}
 use Rattle.lexer.specs.Walk.{cleared, tokens-count}
 
 pub cleared-all : (ws : List ℕ) → cleared ws 0 ≡ replicate (length ws) 0

@@ -14,11 +14,7 @@ use Rattle.utf8.specs.declared.Way.the-variants.{NoStart, NotAllowed, Cut}
 use Rattle.utf8.specs.declared.Checked.the-variants.{Good, Bad}
 use Rattle.lexer.specs.declared.Lexed.{Lexed}
 use Rattle.lexer.specs.declared.Lexed.the-variants.{Tokens, Refused}
-use Rattle.scan.specs.Lexer.{tokensOf, word}
-
--- "over 65,536 bytes"
-abbrev pub longestText : ℕ
-longestText = 65536
+use Rattle.scan.specs.Lexer.{longestText, tokensOf, word}
 
 -- "Refusal 1 keeps a byte that starts no sequence (RFC 3629)." "It refuses with 9 where a later byte of a sequence isn't allowed, and with 10 where
 -- the text ends inside a sequence that was right so far." (01, W1)

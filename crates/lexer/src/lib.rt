@@ -6,6 +6,7 @@ ghost use lib.ListN.{length, set, take, replicate};
 ghost use lib.Seq.{sets};
 ghost use Rattle.scan.specs.Lexer.{tokensOf, word};
 ghost use Rattle.lexer.specs.Lex.{answer, lexed, lexedWords, notUtf8, startOf, spellingOf, spellingStart, Begins};
+pub use scan::LONGEST_TEXT;
 use utf8::Checked;
 use utf8::Way;
 use words::refusal;
@@ -16,9 +17,6 @@ pub enum Lexed {
     Tokens(usize),
     Refused(u32, usize),
 }
-
-// The longest text, in bytes.
-pub const LONGEST_TEXT: usize = 65536;
 
 // A word stored where there is room for it.
 fn put(words: &mut [u32], n: usize, word: u32)

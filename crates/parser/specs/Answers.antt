@@ -9,7 +9,7 @@ use lib.ListN.{length, replicate}
 use Rattle.words.specs.Answer.{Answer}
 use Rattle.words.specs.Answer as Answer
 use Rattle.words.specs.Refusal
-use Rattle.lexer.specs.Lex.{longestText}
+use Rattle.lexer.specs.Lexer.{longestText}
 use Rattle.definition.specs.Prog.{Memory, Out, done, refused}
 use Rattle.definition.specs.Declarations.{parseFile}
 use Rattle.definition.specs.Parse.{maxDepth, start, zeros, parsedTo, parsedWithin, parsed}

@@ -12,8 +12,8 @@ use Rattle.utf8.specs.Utf8.{checked}
 use Rattle.utf8.specs.declared.Checked.{Checked}
 use Rattle.utf8.specs.declared.Checked.the-variants.{Good, Bad}
 use Rattle.words.specs.Refusal
-use Rattle.scan.specs.Lexer.{tokensOf}
-use Rattle.lexer.specs.Lex.{longestText, notUtf8, lexed, lexedWords}
+use Rattle.scan.specs.Lexer.{longestText, tokensOf}
+use Rattle.lexer.specs.Lex.{notUtf8, lexed, lexedWords}
 use Rattle.definition.specs.Prog.{Memory, memory, Out}
 use Rattle.definition.specs.Prog as Prog
 use Rattle.definition.specs.Parse.{zeros, parsedTo, parsedWithin, parsed}

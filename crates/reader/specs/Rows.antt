@@ -21,8 +21,8 @@ use Rattle.utf8.specs.Utf8.{checked}
 use Rattle.utf8.specs.declared.Checked.{Checked}
 use Rattle.utf8.specs.declared.Checked.the-variants.{Good, Bad}
 use Rattle.scan.specs.declared.Token.{Token as LexToken}
-use Rattle.scan.specs.Lexer.{from, tokenAt, tokensFrom, tokensOf, word}
-use Rattle.lexer.specs.Lex.{longestText, notUtf8, lexed, lexedWords}
+use Rattle.scan.specs.Lexer.{longestText, from, tokenAt, tokensFrom, tokensOf, word}
+use Rattle.lexer.specs.Lex.{notUtf8, lexed, lexedWords}
 use Rattle.scan.specs.Longest.{and-both}
 use Rattle.lexer.specs.Walk.{Stepped, stepped, over, tokens-count}
 use Rattle.literals.specs.Spelling.{span, wordAt, tokenStart, covered, spelling}

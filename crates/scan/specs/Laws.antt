@@ -80,6 +80,10 @@ block-last : (a depth : ℕ) → 0 < depth → blockComment (a ∷ []) depth ≡
 unfolding blockComment
 block-last a depth d = rw (ne-eqb depth 0 (omega arith))
 
+-- A pair of bytes, of which the second is not 0, stands inside the text.
+pub pair-inside : (text : List ℕ) (i x y : ℕ) → (eqb (getD text i 0) x && eqb (getD text (i + 1) 0) (suc y)) ≡ true → i + 1 < length text
+pair-inside text i x y e = inside text (i + 1) y (and-right (eqb (getD text i 0) x) (eqb (getD text (i + 1) 0) (suc y)) e)
+
 -- Each law below takes what a scan at `i` gives, `t`, to what it gives one step on: so a loop carries it along.
 module _ (text : List ℕ) (i : ℕ) (t : Token) where
   pub line-stop : i < length text → getD text i 0 ≡ 10 → from i (lineComment (drop i text)) ≡ t → ended TokenKind.LineComment (i + 1) ≡ t
@@ -113,14 +117,14 @@ module _ (text : List ℕ) (i : ℕ) (t : Token) where
     pub block-close : 0 < depth → (eqb a 42 && eqb b 47) ≡ true
         → from i (blockComment (drop i text) depth) ≡ t → from (i + 2) (blockComment (drop (i + 2) text) (depth - 1)) ≡ t
     block-close d e p =
-        let h : i + 1 < length text = inside text (i + 1) 46 (and-right (eqb a 42) (eqb b 47) e) in
+        let h : i + 1 < length text = pair-inside text i 42 46 e in
         rw sub-one (sym (from-more i 2 _) ∙ (rw (rest-two text i h, block-two a b (drop (i + 2) text) depth d e) at p))
 
     pub block-open : 0 < depth → (eqb a 42 && eqb b 47) ≡ false
         → (eqb a 47 && eqb b 42) ≡ true
         → from i (blockComment (drop i text) depth) ≡ t → from (i + 2) (blockComment (drop (i + 2) text) (depth + 1)) ≡ t
     block-open d e e′ p =
-        let h : i + 1 < length text = inside text (i + 1) 41 (and-right (eqb a 47) (eqb b 42) e′) in
+        let h : i + 1 < length text = pair-inside text i 47 41 e′ in
         rw (add-one depth) (sym (from-more i 2 _) ∙ (rw (rest-two text i h, block-nest a b (drop (i + 2) text) depth d e e′) at p))
 
     pub block-next : 0 < depth → i < length text → (eqb a 42 && eqb b 47) ≡ false

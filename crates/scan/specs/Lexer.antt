@@ -13,6 +13,10 @@ use Rattle.utf8.specs.declared.Character.the-variants.{Is, Nothing}
 use Rattle.scan.specs.declared.Token.{Token}
 use Rattle.scan.specs.Bytes.{ascii, Class, none, digit, identStart, identPart, blank, isDigit}
 
+-- "over 65,536 bytes": the longest text that is read.
+abbrev pub longestText : ℕ
+longestText = 65536
+
 -- A token's kind, and how many bytes it covers.
 pub record Lexeme : Type 0 where
   pub kind : ℕ

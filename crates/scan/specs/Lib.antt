@@ -2,5 +2,6 @@
 pub mod Bytes
 pub mod Lexer
 pub mod Laws
+pub mod Comments
 pub mod Longest
 pub mod Fits

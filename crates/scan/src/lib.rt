@@ -1,13 +1,14 @@
 // The callbacks of lexer.rs and the runs of its patterns: functions from a byte offset to where a token ends.
 ghost use mathlib.Core.Path.{_≡_};
 ghost use mathlib.Core.Bool.{false, not, cond, _&&_, _||_};
-ghost use Prim.Native.Nat.{_+_};
+ghost use Prim.Native.Nat.{_+_, _-_, _≤_, _<_};
 ghost use lib.Dec.{eqb};
-ghost use lib.ListN.{drop, getD};
+ghost use lib.ListN.{length, drop, getD};
 ghost use Rattle.words.specs.Token;
 ghost use Rattle.scan.specs.Bytes.{within, digit, identStart, identPart, blank, isDigit};
 ghost use Rattle.scan.specs.Lexer.{run, from, lineComment, blockComment, number, string};
 ghost use Rattle.scan.specs.Laws.{ended};
+ghost use Rattle.scan.specs.Comments.{mostOpen, mostBehind, behind, stepped, Counted};
 use words::token;
 
 // A token: its kind and the offset where it ends.
@@ -15,6 +16,12 @@ pub struct Token {
     pub kind: u32,
     pub end: usize,
 }
+
+// The longest text, in bytes.
+pub const LONGEST_TEXT: usize = 65536;
+
+// The bytes that can stand behind a `/*` in it.
+const MOST_BEHIND: usize = LONGEST_TEXT - 2;
 
 // The byte at an offset, 0 past the end: 0 begins and goes on with no token.
 pub fn byte_at(text: &[u8], at: usize) -> u8
@@ -146,36 +153,74 @@ fn is_pair(a: u8, b: u8, x: u8, y: u8) -> bool
     false
 }
 
-// lex_block_comment, from behind the `/*`. The depth is as wide as an offset: it grows only with bytes that are passed,
-// so it can't overflow.
-pub fn block_comment(text: &[u8], at: usize) -> Token
+// Where the comment reader stands, and how many comments are open there. 16 bits are enough: each took two of at most 65,536 bytes.
+struct Nest {
+    depth: u16,
+    at: usize,
+}
+
+// One step of lex_block_comment: past a `*/`, a `/*` or one byte. The count is the definition's depth, and at most 32,768.
+fn step(text: &[u8], nest: Nest) -> Nest
+    requires { ⌜ Counted (now text) nest × (0 < nest .depth) × (nest .at < length (now text)) ⌝ }
+    ensures { λ r. ⌜ (r ≡ stepped (now (text .entry)) nest) × (r .depth ≤ mostOpen) ⌝ }
+{
+    let i = nest.at;
+    let depth = nest.depth;
+    let a = text[i];
+    let b = byte_at(text, i + 1);
+    if is_pair(a, b, 42, 47) {
+        return Nest {
+            depth: depth - 1,
+            at: i + 2,
+        };
+    }
+    if is_pair(a, b, 47, 42) {
+        return Nest {
+            depth: depth + 1,
+            at: i + 2,
+        };
+    }
+    Nest { depth, at: i + 1 }
+}
+
+// lex_block_comment, from behind the `/*`, where no more bytes are left than can stand there.
+fn comment(text: &[u8], at: usize) -> Token
+    requires { ⌜ length (now text) - at ≤ mostBehind ⌝ }
     ensures { λ r. ⌜ r ≡ from at (blockComment (drop at (now (text .entry))) 1) ⌝ }
 {
-    let mut depth: usize = 1;
-    let mut i = at;
-    while 0 < depth {
-        if text.len() <= i {
+    let mut nest = Nest { depth: 1, at };
+    while 0 < nest.depth {
+        let end = nest.at;
+        if text.len() <= end {
             return Token {
                 kind: token::UNCLOSED_BLOCK_COMMENT_ERROR,
-                end: i,
+                end,
             };
         }
-        let a = text[i];
-        let b = byte_at(text, i + 1);
-        if is_pair(a, b, 42, 47) {
-            depth -= 1;
-            i += 2;
-        } else if is_pair(a, b, 47, 42) {
-            depth += 1;
-            i += 2;
-        } else {
-            i += 1;
-        }
+        nest = step(text, nest);
     }
     Token {
         kind: token::BLOCK_COMMENT,
-        end: i,
+        end: nest.at,
     }
+}
+
+// How many bytes the text has from an offset on.
+fn bytes_from(text: &[u8], at: usize) -> usize
+    ensures { λ r. ⌜ r ≡ length (now (text .entry)) - at ⌝ }
+{
+    if at < text.len() { text.len() - at } else { 0 }
+}
+
+// lex_block_comment, from behind the `/*`. Of a text that is too long no more is looked at than can stand there in the longest.
+pub fn block_comment(text: &[u8], at: usize) -> Token
+    ensures { λ r. ⌜ r ≡ from at (blockComment (behind at (now (text .entry))) 1) ⌝ }
+{
+    if MOST_BEHIND < bytes_from(text, at) {
+        let end = at + MOST_BEHIND;
+        return comment(&text[..end], at);
+    }
+    comment(text, at)
 }
 
 // A literal's token where it ends, or the error that its bytes make of it.

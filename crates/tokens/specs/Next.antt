@@ -5,10 +5,11 @@ use mathlib.Core.List.{List}
 use Prim.Native.Nat.{ℕ, _≤_, _<_}
 use borrow.Author.Tests.{lt-ltb, le-ltb}
 use lib.Dec.{ltb}
-use lib.ListN.{length, drop}
+use lib.ListN.{length, take, drop}
+use lib.Seq.{take-all}
 use Rattle.words.specs.Token as TokenKind
 use Rattle.scan.specs.declared.Token.{Token}
-use Rattle.scan.specs.Lexer.{from, tokenAt}
+use Rattle.scan.specs.Lexer.{longestText, from, tokenAt}
 
 -- What `tokensFrom` of crate scan begins with, where no byte belongs to the token before.
 unfoldable pub nextToken : List ℕ → ℕ → Token
@@ -26,5 +27,6 @@ module _ (text : List ℕ) (at : ℕ) where
   pub next-there : (t : Token) → at < length text → t ≡ from at (tokenAt (drop at text)) → t ≡ nextToken text at
   next-there t h e = e ∙ sym (inside h)
 
-  pub next-inside : (t : Token) → at < length text → t ≡ nextToken text at → t ≡ from at (tokenAt (drop at text))
-  next-inside t h e = e ∙ inside h
+  -- In a text that is no longer than a text may be.
+  pub next-inside : length text ≤ longestText → (t : Token) → at < length text → t ≡ nextToken (take longestText text) at → t ≡ from at (tokenAt (drop at text))
+  next-inside l t h e = (rw (take-all longestText text l) at e) ∙ inside h

@@ -4,14 +4,15 @@ ghost use mathlib.Core.List.{[], _∷_, map};
 ghost use mathlib.Core.Bool.{true, false, cond};
 ghost use Prim.Native.Nat.{_+_, _<_, _≤_};
 ghost use lib.Dec.{eqb};
-ghost use lib.ListN.{length, drop, getD};
+ghost use lib.ListN.{length, take, drop, getD};
 ghost use Rattle.scan.specs.Bytes.{digit, identStart, isDigit};
-ghost use Rattle.scan.specs.Lexer.{from, spelled, classed, tokenAt, longest, noMatch, rule, punctuation};
+ghost use Rattle.scan.specs.Lexer.{longestText, from, spelled, classed, tokenAt, longest, noMatch, rule, punctuation};
 ghost use Rattle.scan.specs.Longest.{same, keywordOf, withHead};
 ghost use Rattle.tokens.specs.Cases.{matchOf};
 ghost use Rattle.tokens.specs.At.{Other};
 ghost use Rattle.tokens.specs.Next.{nextToken};
 ghost use Rattle.tokens.specs.Pairs.{pairOf, aloneOf};
+use scan::LONGEST_TEXT;
 use scan::Token;
 use utf8::Character;
 use words::token;
@@ -231,7 +232,7 @@ fn at_sign(text: &[u8], at: usize) -> Token
 
 // A slash: a comment or the operator. `//*` is a line comment.
 fn slash(text: &[u8], at: usize) -> Token
-    requires { ⌜ (at < length (now text)) × (getD (now text) at 0 ≡ 47) ⌝ }
+    requires { ⌜ (at < length (now text)) × (getD (now text) at 0 ≡ 47) × (length (now text) ≤ longestText) ⌝ }
     ensures { λ r. ⌜ r ≡ from at (tokenAt (drop at (now (text .entry)))) ⌝ }
 {
     let next = scan::byte_at(text, at + 1);
@@ -373,7 +374,7 @@ fn other(text: &[u8], at: usize) -> Token
 
 // The token at an offset inside the text.
 fn token_at(text: &[u8], at: usize) -> Token
-    requires { ⌜ at < length (now text) ⌝ }
+    requires { ⌜ (at < length (now text)) × (length (now text) ≤ longestText) ⌝ }
     ensures { λ r. ⌜ r ≡ from at (tokenAt (drop at (now (text .entry)))) ⌝ }
 {
     let b = text[at];
@@ -398,7 +399,8 @@ fn token_at(text: &[u8], at: usize) -> Token
 }
 
 // The token at an offset; where the text has ended, an Eof.
-pub fn next_token(text: &[u8], at: usize) -> Token
+fn token_or_end(text: &[u8], at: usize) -> Token
+    requires { ⌜ length (now text) ≤ longestText ⌝ }
     ensures { λ r. ⌜ r ≡ nextToken (now (text .entry)) at ⌝ }
 {
     if text.len() <= at {
@@ -408,4 +410,14 @@ pub fn next_token(text: &[u8], at: usize) -> Token
         };
     }
     token_at(text, at)
+}
+
+// The token at an offset; where the text, or its first 65,536 bytes, have ended, an Eof.
+pub fn next_token(text: &[u8], at: usize) -> Token
+    ensures { λ r. ⌜ r ≡ nextToken (take longestText (now (text .entry))) at ⌝ }
+{
+    if LONGEST_TEXT < text.len() {
+        return token_or_end(&text[..LONGEST_TEXT], at);
+    }
+    token_or_end(text, at)
 }

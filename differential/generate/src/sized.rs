@@ -4,13 +4,14 @@ const LIMIT: usize = 65_536;
 
 const LENGTHS: [usize; 5] = [LIMIT - 1, LIMIT, LIMIT + 1, LIMIT + 2, 2 * LIMIT];
 
-const FILLINGS: [&str; 16] = [
+const FILLINGS: [&str; 17] = [
     " ",
     ";",
     "a",
     "1",
     "#",
     "/*",
+    "/*/",
     "*/",
     "\"",
     "\"\\",
@@ -23,11 +24,15 @@ const FILLINGS: [&str; 16] = [
     "木",
 ];
 
-/// Each filling over and over, also where that ends inside a character; then the same with a
-/// byte that starts no character in front, and with one at the end.
+/// How many comments are opened: as many as may be and one less, and as many as can just be closed,
+/// one more and one less.
+const OPENED: [usize; 5] = [LIMIT / 2, LIMIT / 2 - 1, LIMIT / 4 + 1, LIMIT / 4, LIMIT / 4 - 1];
+
+/// Each filling over and over, also where that ends inside a character, and nested comments; then
+/// the same with a byte that starts no character in front, and with one at the end.
 pub fn texts_around_the_limit() -> impl Iterator<Item = Vec<u8>> {
-    let texts = LENGTHS.iter().flat_map(|length| FILLINGS.map(|filling| filled(filling, *length)));
-    texts.flat_map(|text| {
+    let filled = LENGTHS.iter().flat_map(|length| FILLINGS.map(|filling| filled(filling, *length)));
+    filled.chain(OPENED.map(nested_comments)).flat_map(|text| {
         let mut bad_first = text.clone();
         bad_first[0] = 0xff;
         let mut bad_last = text.clone();
@@ -73,4 +78,10 @@ pub fn long_texts() -> impl Iterator<Item = String> {
 
 fn filled(filling: &str, length: usize) -> Vec<u8> {
     filling.bytes().cycle().take(length).collect()
+}
+
+/// So many comments opened, and closed as often as fits.
+fn nested_comments(opened: usize) -> Vec<u8> {
+    let closed = opened.min(LIMIT / 2 - opened);
+    format!("{}{}", "/*".repeat(opened), "*/".repeat(closed)).into_bytes()
 }

@@ -53,6 +53,17 @@ fn the_limit_is_met_from_both_sides() {
 }
 
 #[test]
+fn comments_are_opened_as_often_as_may_be() {
+    let nested = |opened, closed| ["/*".repeat(opened), "*/".repeat(closed)].concat();
+    let texts: HashSet<Vec<u8>> = texts_around_the_limit().collect();
+    for (opened, closed) in [(32_768, 0), (32_767, 1), (16_384, 16_384)] {
+        let text = nested(opened, closed);
+        assert_eq!((text.len(), token_kinds(&text).count()), (65_536, 2));
+        assert!(texts.contains(text.as_bytes()), "{opened} opened");
+    }
+}
+
+#[test]
 fn short_texts_are_all_there() {
     let characters = 1 + 136 + 136_usize.pow(2) + 99_usize.pow(3) + 36_usize.pow(4);
     assert_eq!(short_texts().count(), characters);

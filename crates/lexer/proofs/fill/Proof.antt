@@ -29,7 +29,7 @@ cast-token-word c =
     omega (
       arith,
       stepped _ _ _ (at-loop-test .loop-test .taken)
-          (next-inside _ _ _ (at-loop-test .loop-test .taken) (at-next-token .next-token .ensures)) .within,
+          (next-inside (at-pre .args .text .now) _ (at-pre .pre) _ (at-loop-test .loop-test .taken) (at-next-token .next-token .ensures)) .within,
       at-pre .pre,
     )
 
@@ -49,11 +49,12 @@ loop-less : tie.Need-loop-less Inv-loop μ-loop
 loop-less c =
     let at-next-token = c .before .before .before .before .before in
     let at-loop-test = at-next-token .before in
+    let at-pre = at-loop-test .before .before .before .before in
     omega (
       arith,
       at-loop-test .loop-test .taken,
       stepped _ _ _ (at-loop-test .loop-test .taken)
-          (next-inside _ _ _ (at-loop-test .loop-test .taken) (at-next-token .next-token .ensures)) .on,
+          (next-inside (at-pre .args .text .now) _ (at-pre .pre) _ (at-loop-test .loop-test .taken) (at-next-token .next-token .ensures)) .on,
     )
 
 loop-again : tie.Need-loop-again Inv-loop μ-loop
@@ -63,8 +64,9 @@ loop-again c =
     let at-next-token = at-token-word .before .before in
     let at-loop-test = at-next-token .before in
     let at-loop = at-loop-test .before in
+    let at-pre = at-loop .before .before .before in
     filling-next _ _ _ _ _ (at-loop .loop .inv) _ _ _ (at-loop-test .loop-test .taken)
-    (next-inside _ _ _ (at-loop-test .loop-test .taken) (at-next-token .next-token .ensures)) (at-token-word .token-word .ensures)
+    (next-inside (at-pre .args .text .now) _ (at-pre .pre) _ (at-loop-test .loop-test .taken) (at-next-token .next-token .ensures)) (at-token-word .token-word .ensures)
     (at-put .put .ensures)
 
 cast-token-word-2 : tie.Need-cast-token-word-2 Inv-loop μ-loop

@@ -12,7 +12,7 @@ is-ident-start-requires : tie.Need-is-ident-start-requires
 is-ident-start-requires c κs = search needs
 
 word-requires : tie.Need-word-requires
-word-requires c κs = (c .before .before .before .before .pre, sym (c .before .is-ident-start .ensures) ∙ c .if1 .taken)
+word-requires c κs = (c .before .before .before .before .pre .0, sym (c .before .is-ident-start .ensures) ∙ c .if1 .taken)
 
 returns : tie.Need-returns
 returns c = search needs
@@ -24,7 +24,7 @@ numeral-requires : tie.Need-numeral-requires
 numeral-requires c κs =
     let at-is-decimal = c .before in
     let at-pre = at-is-decimal .before .before .before .before .before in
-    (at-pre .pre, sym (at-is-decimal .is-decimal .ensures) ∙ c .if2 .taken)
+    (at-pre .pre .0, sym (at-is-decimal .is-decimal .ensures) ∙ c .if2 .taken)
 
 returns-2 : tie.Need-returns-2
 returns-2 c = search needs
@@ -43,7 +43,7 @@ returns-3 c =
     let at-if3 = c .before in
     let at-is-blank = at-if3 .before in
     let at-pre = at-is-blank .before .before .before .before .before .before .before in
-    blank-at _ _ (at-pre .pre) _ (sym (at-is-blank .is-blank .ensures) ∙ at-if3 .if3 .taken) (c .blank-end .ensures)
+    blank-at _ _ (at-pre .pre .0) _ (sym (at-is-blank .is-blank .ensures) ∙ at-if3 .if3 .taken) (c .blank-end .ensures)
 
 add-string : tie.Need-add-string
 add-string c = search needs
@@ -54,12 +54,12 @@ string-requires c κs = search needs
 slash-requires : tie.Need-slash-requires
 slash-requires c κs =
     let at-pre = c .before .before .before .before .before .before .before .before .before in
-    (at-pre .pre, c .match .keys2)
+    (at-pre .pre .0, c .match .keys2, at-pre .pre .1)
 
 at-sign-requires : tie.Need-at-sign-requires
 at-sign-requires c κs =
     let at-pre = c .before .before .before .before .before .before .before .before .before in
-    (at-pre .pre, c .match .keys3)
+    (at-pre .pre .0, c .match .keys3)
 
 other-requires : tie.Need-other-requires
 other-requires c κs =
@@ -70,7 +70,7 @@ other-requires c κs =
     let at-if1 = at-is-decimal .before in
     let at-is-ident-start = at-if1 .before in
     let at-pre = at-is-ident-start .before .before .before in (
-      at-pre .pre,
+      at-pre .pre .0,
       record {
         start = sym (at-is-ident-start .is-ident-start .ensures) ∙ at-if1 .if1 .left;
         number = sym (at-is-decimal .is-decimal .ensures) ∙ at-if2 .if2 .left;
@@ -85,7 +85,7 @@ returns-4 : tie.Need-returns-4
 returns-4 c =
     let at-match = c .before in
     let at-pre = at-match .before .before .before .before .before .before .before .before .before in
-    quote-at _ _ (at-pre .pre) _ (at-match .match .keys1) (c .string .ensures)
+    quote-at _ _ (at-pre .pre .0) _ (at-match .match .keys1) (c .string .ensures)
 
 returns-5 : tie.Need-returns-5
 returns-5 c = search needs
