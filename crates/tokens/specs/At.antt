@@ -16,7 +16,7 @@ use Rattle.utf8.specs.declared.Character.{Character}
 use Rattle.utf8.specs.declared.Character.the-variants.{Is, Nothing}
 use Rattle.scan.specs.declared.Token.{Token}
 use Rattle.scan.specs.Bytes.{ascii, Class, digit, upper, lower, identStart, identPart, blank, isDigit}
-use Rattle.scan.specs.Comments.{behind, behind-whole}
+use Rattle.scan.specs.Comments.{behind, behind-all}
 use Rattle.scan.specs.Lexer.{longestText, Lexeme, lexeme, more, from, run, spelled, classed, tokenAt, lineComment, blockComment, number, string, Match, longest, noMatch, finish, rule, punctuation, invalidChar}
 use Rattle.scan.specs.Longest.{keywordOf, run-length}
 use Rattle.tokens.specs.First
@@ -190,7 +190,7 @@ module _ (text : List ℕ) (at : ℕ) where
 
         pub block-at : length text ≤ longestText → (r : Token) → n ≡ 42 → r ≡ from (at + 2) (blockComment (behind (at + 2) text) 1) → r ≡ here
         block-at l r f p =
-            later 2 (λ x. blockComment x 1) r (rw (known 47 e) (slash-block s (sym second ∙ f))) (rw (behind-whole at text l) at p)
+            later 2 (λ x. blockComment x 1) r (rw (known 47 e) (slash-block s (sym second ∙ f))) (rw (behind-all (at + 2) text (omega arith)) at p)
 
         pub slash-at : (n ≡ 47 → ⊥) → (n ≡ 42 → ⊥) → ended TokenKind.Slash (at + 1) ≡ here
         slash-at f g = rw (known 47 e) (sym (ap (from at) (slash-alone s (λ x. f (second ∙ x)) (λ x. g (second ∙ x)))))

@@ -3,7 +3,7 @@ use mathlib.Core.Path.{sym}
 use native.Mathlib.Omega.{arith}
 use lib.Seq.{length-take-le}
 use borrow.Author.Needs.{needs}
-use Rattle.scan.specs.Comments.{behind-short, behind-part, behind-all}
+use Rattle.scan.specs.Comments.{behind-short, behind-all}
 use Rattle.scan.proofs.block_comment.Statement.{statement}
 use Rattle.scan.proofs.block_comment.Tie as tie
 
@@ -22,13 +22,16 @@ comment-requires c κs =
     behind-short (at-entry .args .at) (at-entry .args .text .now)
 
 returns : tie.Need-returns
-returns c = behind-part _ _ _ (c .comment .ensures)
+returns c = search needs
 
 comment-requires-2 : tie.Need-comment-requires-2
 comment-requires-2 c κs = omega (arith, c .before .bytes-from .ensures)
 
 returns-2 : tie.Need-returns-2
-returns-2 c = behind-all _ _ _ (omega (arith, c .before .before .bytes-from .ensures)) (c .comment2 .ensures)
+returns-2 c =
+    let at-bytes-from = c .before .before in
+    let entry = at-bytes-from .before .before .args in
+    rw (behind-all (entry .at) (entry .text .now) (omega (arith, at-bytes-from .bytes-from .ensures))) (c .comment2 .ensures)
 
 pub block-comment-spec : {M : Type 1} → statement M
 block-comment-spec =

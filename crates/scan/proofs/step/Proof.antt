@@ -1,5 +1,5 @@
 -- `step` meets its contract, by the law of each of its three ways on.
-use Rattle.scan.specs.Comments.{at-most, step-closing, step-opening, step-passing}
+use Rattle.scan.specs.Comments.{step-most, step-closed, step-opened, step-passed}
 use borrow.Author.Needs.{needs}
 use Rattle.scan.proofs.step.Statement.{statement}
 use Rattle.scan.proofs.step.Tie as tie
@@ -27,8 +27,8 @@ returns c =
     let at-is-pair = c .before in
     let at-byte-at = at-is-pair .before in
     let pre = at-byte-at .before .before .before .pre in
-    at-most _ _ (pre .0) (pre .1) (pre .2) _
-    (step-closing _ _ (pre .0) (pre .1) (pre .2) _ (at-byte-at .byte-at .ensures) _ (at-is-pair .is-pair .ensures) (c .if1 .taken))
+    step-most _ _ (pre .0) (pre .1) (pre .2) _
+    (step-closed _ _ _ (at-byte-at .byte-at .ensures) _ (at-is-pair .is-pair .ensures) (c .if1 .taken))
 
 is-pair-requires-2 : tie.Need-is-pair-requires-2
 is-pair-requires-2 c κs = search needs
@@ -46,8 +46,8 @@ returns-2 c =
     let at-is-pair = at-if1 .before in
     let at-byte-at = at-is-pair .before in
     let pre = at-byte-at .before .before .before .pre in
-    at-most _ _ (pre .0) (pre .1) (pre .2) _
-    (step-opening _ _ (pre .0) (pre .1) (pre .2) _ (at-byte-at .byte-at .ensures) _ (at-is-pair .is-pair .ensures) (at-if1 .if1 .left) _
+    step-most _ _ (pre .0) (pre .1) (pre .2) _
+    (step-opened _ _ _ (at-byte-at .byte-at .ensures) _ (at-is-pair .is-pair .ensures) (at-if1 .if1 .left) _
     (at-is-pair2 .is-pair2 .ensures) (c .if2 .taken))
 
 add-t9 : tie.Need-add-t9
@@ -60,8 +60,8 @@ returns-3 c =
     let at-is-pair = at-if1 .before in
     let at-byte-at = at-is-pair .before in
     let pre = at-byte-at .before .before .before .pre in
-    at-most _ _ (pre .0) (pre .1) (pre .2) _
-    (step-passing _ _ (pre .0) (pre .1) (pre .2) _ (at-byte-at .byte-at .ensures) _ (at-is-pair .is-pair .ensures) (at-if1 .if1 .left) _
+    step-most _ _ (pre .0) (pre .1) (pre .2) _
+    (step-passed _ _ _ (at-byte-at .byte-at .ensures) _ (at-is-pair .is-pair .ensures) (at-if1 .if1 .left) _
     (at-is-pair2 .is-pair2 .ensures) (c .if2 .left))
 
 pub step-spec : {M : Type 1} → statement M
