@@ -5,6 +5,8 @@ use generate::{
 use oracle::{End, NODE_WIDTH};
 use std::collections::HashSet;
 
+const BLOCK_COMMENT: u32 = 74;
+const UNCLOSED_BLOCK_COMMENT_ERROR: u32 = 79;
 const EOF: u32 = 81;
 
 fn token_kinds(text: &str) -> impl Iterator<Item = u32> {
@@ -54,12 +56,18 @@ fn the_limit_is_met_from_both_sides() {
 
 #[test]
 fn comments_are_opened_as_often_as_may_be() {
-    let nested = |opened, closed| ["/*".repeat(opened), "*/".repeat(closed)].concat();
     let texts: HashSet<Vec<u8>> = texts_around_the_limit().collect();
-    for (opened, closed) in [(32_768, 0), (32_767, 1), (16_384, 16_384)] {
-        let text = nested(opened, closed);
-        assert_eq!((text.len(), token_kinds(&text).count()), (65_536, 2));
-        assert!(texts.contains(text.as_bytes()), "{opened} opened");
+    let nested = |opened, closed| ["/*".repeat(opened), "*/".repeat(closed)].concat();
+    let alternating = "/*/".repeat(65_536 / 3) + "/";
+    for (text, kind) in [
+        (nested(32_768, 0), UNCLOSED_BLOCK_COMMENT_ERROR),
+        (nested(32_767, 1), UNCLOSED_BLOCK_COMMENT_ERROR),
+        (nested(16_384, 16_384), BLOCK_COMMENT),
+        (alternating, UNCLOSED_BLOCK_COMMENT_ERROR),
+    ] {
+        assert_eq!(text.len(), 65_536);
+        assert_eq!(token_kinds(&text).collect::<Vec<_>>(), [kind, EOF]);
+        assert!(texts.contains(text.as_bytes()));
     }
 }
 
