@@ -1,6 +1,6 @@
 //! What a call answers and leaves in the lent slice, and what it should, by the reference.
 
-use crate::utf8;
+use crate::{fault::Fault, utf8};
 
 pub const MOST_BYTES: usize = 65_536;
 
@@ -31,9 +31,6 @@ impl Answer {
     }
 }
 
-/// The token words of a text.
-pub type Lexer = fn(&str) -> Vec<u32>;
-
 /// What the reference says of a text, whatever the slice.
 pub enum Reference {
     Refused { number: u32, place: usize },
@@ -41,12 +38,14 @@ pub enum Reference {
 }
 
 impl Reference {
-    pub fn of(text: &[u8], lexer: Lexer) -> Reference {
+    pub fn of(text: &[u8], fault: Option<Fault>) -> Reference {
         if text.len() > MOST_BYTES {
             return Reference::Refused { number: TOO_LONG, place: MOST_BYTES };
         }
         match utf8::checked(text) {
-            Ok(text) => Reference::Tokens(lexer(text)),
+            Ok(text) => {
+                Reference::Tokens(fault.map_or_else(|| oracle::lex(text), |fault| fault.lex(text)))
+            }
             Err((number, place)) => Reference::Refused { number, place },
         }
     }

@@ -4,7 +4,7 @@ mod places;
 
 use crate::{
     library,
-    options::LexOptions,
+    options::ChartOptions,
     read::{Answer, Lent},
     run::shown,
 };
@@ -17,7 +17,7 @@ use std::process::ExitCode;
 /// So many differing texts are shown.
 const SHOWN: usize = 8;
 
-pub fn run(options: &LexOptions) -> ExitCode {
+pub fn run(options: &ChartOptions) -> ExitCode {
     if options.plant {
         println!("planted fault: in mid-block anything may follow a Block, If or Match");
     }
@@ -135,7 +135,7 @@ impl<'a, 't> Rows<'a, 't> {
     }
 }
 
-fn generated(chart: &Chart, options: &LexOptions, tally: &mut Tally) {
+fn generated(chart: &Chart, options: &ChartOptions, tally: &mut Tally) {
     let mut rng = generate::Rng::new(options.seed);
     let scripts = (0..options.texts / 2).map(|_| script(&mut rng));
     let others = ParseTexts::new(options.seed).take(options.texts / 2);

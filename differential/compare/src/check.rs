@@ -1,7 +1,8 @@
 //! One text, lent slices of several lengths.
 
 use crate::{
-    answer::{Answer, Lexer, Reference},
+    answer::{Answer, Reference},
+    fault::Fault,
     library,
 };
 use std::fmt;
@@ -13,8 +14,8 @@ pub struct Difference {
     found: Answer,
 }
 
-pub fn first_difference(text: &[u8], lexer: Lexer) -> Option<Difference> {
-    let reference = Reference::of(text, lexer);
+pub fn first_difference(text: &[u8], fault: Option<Fault>) -> Option<Difference> {
+    let reference = Reference::of(text, fault);
     lent_lengths(text, &reference).into_iter().find_map(|lent| {
         let expected = reference.answer(lent);
         let found = library::lex(text, lent);

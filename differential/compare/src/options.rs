@@ -1,9 +1,9 @@
 //! The command line.
 
-use crate::{read, views};
+use crate::{fault, read, views};
 use std::path::PathBuf;
 
-pub const USAGE: &str = "compare lex [--texts N] [--seed S] [--plant]
+pub const USAGE: &str = "compare lex [--texts N] [--seed S] [--plant FAULT]
 compare read [--texts N] [--seed S] [--plant FAULT]
 compare chart [--texts N] [--seed S] [--plant]
 compare views [--texts N] [--seed S] [--plant FAULT]
@@ -14,15 +14,15 @@ compare record-parse FILE";
 pub enum Command {
     Lex(LexOptions),
     Read(ReadOptions),
-    Chart(LexOptions),
+    Chart(ChartOptions),
     Views(ViewOptions),
     Record { file: PathBuf },
     RecordParse { file: PathBuf },
 }
 
 #[derive(Debug, PartialEq)]
-pub struct LexOptions {
-    /// How many texts are generated, besides all short ones.
+pub struct ChartOptions {
+    /// How many texts are generated, besides all short rows.
     pub texts: usize,
     pub seed: u64,
     /// Run against a reference with a planted fault.
@@ -39,6 +39,7 @@ pub struct FaultOptions<F> {
     pub plant: Option<F>,
 }
 
+pub type LexOptions = FaultOptions<fault::Fault>;
 pub type ReadOptions = FaultOptions<read::Fault>;
 pub type ViewOptions = FaultOptions<views::Fault>;
 
@@ -47,7 +48,7 @@ impl Command {
         match arguments.next().as_deref() {
             Some("lex") => Ok(Command::Lex(LexOptions::read(arguments)?)),
             Some("read") => Ok(Command::Read(ReadOptions::read(arguments)?)),
-            Some("chart") => Ok(Command::Chart(LexOptions::read(arguments)?)),
+            Some("chart") => Ok(Command::Chart(ChartOptions::read(arguments)?)),
             Some("views") => Ok(Command::Views(ViewOptions::read(arguments)?)),
             Some("record") => Ok(Command::Record { file: file(arguments.next())? }),
             Some("record-parse") => Ok(Command::RecordParse { file: file(arguments.next())? }),
@@ -56,9 +57,9 @@ impl Command {
     }
 }
 
-impl LexOptions {
-    fn read(mut arguments: impl Iterator<Item = String>) -> Result<LexOptions, String> {
-        let mut options = LexOptions { texts: 100_000, seed: 1, plant: false };
+impl ChartOptions {
+    fn read(mut arguments: impl Iterator<Item = String>) -> Result<ChartOptions, String> {
+        let mut options = ChartOptions { texts: 100_000, seed: 1, plant: false };
         while let Some(argument) = arguments.next() {
             match argument.as_str() {
                 "--texts" => options.texts = number(arguments.next())?,
@@ -68,6 +69,12 @@ impl LexOptions {
             }
         }
         Ok(options)
+    }
+}
+
+impl LexOptions {
+    fn read(arguments: impl Iterator<Item = String>) -> Result<LexOptions, String> {
+        fault_options(arguments, 100_000, &fault::FAULTS)
     }
 }
 

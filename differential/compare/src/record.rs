@@ -78,7 +78,7 @@ fn encode(texts: &[Vec<u8>]) -> Vec<u8> {
         bytes.extend(number(text.len()));
         bytes.extend(text);
         bytes.resize(bytes.len().next_multiple_of(4), 0);
-        match Reference::of(text, oracle::lex) {
+        match Reference::of(text, None) {
             Reference::Tokens(tokens) => {
                 bytes.extend(number(tokens.len()));
                 bytes.extend(tokens.iter().flat_map(|word| word.to_le_bytes()));
@@ -137,7 +137,7 @@ mod tests {
         let behind = SMALLEST.map(|(number, _)| (number, GOOD.len()));
         let expected = alone.into_iter().chain(behind).chain([(TOO_LONG, MOST_BYTES)]);
         for (text, expected) in refused().iter().zip(expected) {
-            match Reference::of(text, oracle::lex) {
+            match Reference::of(text, None) {
                 Reference::Refused { number, place } => assert_eq!((number, place), expected),
                 Reference::Tokens(_) => panic!("{text:x?}"),
             }

@@ -1,6 +1,6 @@
 //! The run over all texts, and what a run counts.
 
-use crate::{check::first_difference, fault::lex_with_fault, options::LexOptions, shrink::shrink};
+use crate::{check::first_difference, options::LexOptions, shrink::shrink};
 use generate::{Texts, short_byte_texts, short_texts, texts_around_the_limit};
 use std::{fmt::Display, panic, process::ExitCode, thread};
 
@@ -8,12 +8,11 @@ use std::{fmt::Display, panic, process::ExitCode, thread};
 const SHOWN: usize = 5;
 
 pub fn lex(options: &LexOptions) -> ExitCode {
-    let lexer = if options.plant { lex_with_fault } else { oracle::lex };
-    let difference = |text: &[u8]| first_difference(text, lexer);
+    let difference = |text: &[u8]| first_difference(text, options.plant);
     let differs = |text: &[u8]| difference(text).is_some();
     let mut run = Run::new(500_000);
-    if options.plant {
-        println!("planted fault: the reference ends a line comment at \\r");
+    if let Some(fault) = options.plant {
+        println!("planted fault: {fault:?}");
     }
     run.all("generated", Texts::new(options.seed).take(options.texts), differs);
     run.all("around the limit", texts_around_the_limit(), differs);
