@@ -55,7 +55,7 @@ left text n = from (n .at) (blockComment (drop (n .at) text) (n .depth))
 abbrev pub Counted : List ℕ → Nest → Type 0
 Counted text n = 2 * n .depth + (length text - n .at) ≤ longestText
 
--- What a step keeps: what `blockComment` makes, so that the count is its depth; and the bound.
+-- What a step keeps: the token that `blockComment` comes to where it goes on with the count for its depth; and the bound.
 abbrev pub Kept : List ℕ → Nest → Nest → Type 0
 Kept text n r = (left text r ≡ left text n) × Counted text r × (n .at < r .at)
 

@@ -3,9 +3,10 @@ use mathlib.Core.Path.{_≡_, sym, _∙_}
 use mathlib.Core.Bool.{cond}
 use mathlib.Core.List.{List}
 use Prim.Native.Nat.{ℕ, _≤_, _<_}
+use native.Mathlib.Omega.{arith}
 use borrow.Author.Tests.{lt-ltb, le-ltb}
 use lib.Dec.{ltb}
-use lib.ListN.{length, take, drop}
+use lib.ListN.{length, take, drop, length-take}
 use lib.Seq.{take-all}
 use Rattle.words.specs.Token as TokenKind
 use Rattle.scan.specs.declared.Token.{Token}
@@ -14,6 +15,10 @@ use Rattle.scan.specs.Lexer.{longestText, from, tokenAt}
 -- What `tokensFrom` of crate scan begins with, where no byte belongs to the token before.
 unfoldable pub nextToken : List ℕ → ℕ → Token
 nextToken text at = cond (ltb at (length text)) (from at (tokenAt (drop at text))) (record { kind = TokenKind.Eof; end = at })
+
+-- A part from the start of a text is no longer than what is taken.
+pub part-short : (n : ℕ) (text : List ℕ) → n ≤ longestText → length (take n text) ≤ longestText
+part-short n text h = omega (arith, length-take n text)
 
 module _ (text : List ℕ) (at : ℕ) where
   inside : at < length text → nextToken text at ≡ from at (tokenAt (drop at text))

@@ -4,17 +4,18 @@ use native.Mathlib.Omega.{arith}
 use lib.Seq.{length-take-le, take-all}
 use borrow.Author.Needs.{needs}
 use Rattle.scan.specs.Lexer.{longestText}
+use Rattle.tokens.specs.Next.{part-short}
 use Rattle.tokens.proofs.next_token.Statement.{statement}
 use Rattle.tokens.proofs.next_token.Tie as tie
 
 slice-aggregate-token-or-end : tie.Need-slice-aggregate-token-or-end
-slice-aggregate-token-or-end c = sym (length-take-le longestText (c .before .before .before .args .text .now) (search needs))
+slice-aggregate-token-or-end c = sym (length-take-le _ (c .before .before .before .args .text .now) (search needs))
 
 token-or-end-requires : tie.Need-token-or-end-requires
-token-or-end-requires c κs = omega (arith, length-take-le longestText (c .before .before .before .args .text .now) (search needs))
+token-or-end-requires c κs = search (needs, part-short)
 
 returns : tie.Need-returns
-returns c = search needs
+returns c = c .token-or-end .ensures
 
 token-or-end-requires-2 : tie.Need-token-or-end-requires-2
 token-or-end-requires-2 c κs = search needs
