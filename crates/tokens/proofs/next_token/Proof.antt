@@ -1,6 +1,5 @@
 -- `next_token` meets its contract: of a longer text the first 65,536 bytes are lent on, of any other all.
 use mathlib.Core.Path.{sym}
-use native.Mathlib.Omega.{arith}
 use lib.Seq.{length-take-le, take-all}
 use borrow.Author.Needs.{needs}
 use Rattle.scan.specs.Lexer.{longestText}
