@@ -10,4 +10,5 @@ pub mod Rules
 pub mod Sound
 pub mod Complete
 pub mod Errors
+pub mod Renumbered
 pub mod Examples

@@ -9,7 +9,7 @@ use Rattle.words.specs.Order.{counted}
 use Rattle.utf8.specs.Utf8.{has, follow, sequenceBy, table, checkedFrom, leadBits, joined, codePoint, characterAt}
 use Rattle.scan.specs.Bytes.{ascii, digit, upper, lower, identStart, identPart, blank, isDigit}
 use Rattle.lexer.specs.Lex.{lexed}
-use Rattle.scan.specs.Lexer.{tokensOf, tokensFrom, tokenAt, longest, rules, punctuation, keywords, others, matched, spelled, classed, run, string, number, blockComment, lineComment, invalidChar}
+use Rattle.scan.specs.Lexer.{mark, isMarked, tokensOf, tokensFrom, tokenAt, longest, rules, punctuation, keywords, others, matched, spelled, classed, run, string, number, blockComment, lineComment, invalidChar}
 
 -- A case: its text, and the kinds and ends of its tokens but Eof.
 record Case : Type 0 where
@@ -32,6 +32,11 @@ table-of-cases =
     ∷ lexes (ascii "/*/**/*/;") (TokenKind.BlockComment ∷ TokenKind.Semicolon ∷ []) (8 ∷ 9 ∷ [])
     ∷ lexes (ascii "//*\r\n;") (TokenKind.LineComment ∷ TokenKind.Semicolon ∷ []) (5 ∷ 6 ∷ [])
     ∷ lexes (ascii "/*/") (TokenKind.UnclosedBlockCommentError ∷ []) (3 ∷ [])
+    -- a byte order mark in front: alone, before blanks, before a second one, and one that isn't in front (01, W4)
+    ∷ lexes mark (TokenKind.Whitespace ∷ []) (3 ∷ [])
+    ∷ lexes (mark ++ ascii " \n;") (TokenKind.Whitespace ∷ TokenKind.Whitespace ∷ TokenKind.Semicolon ∷ []) (3 ∷ 5 ∷ 6 ∷ [])
+    ∷ lexes (mark ++ mark) (TokenKind.Whitespace ∷ TokenKind.InvalidCharError ∷ []) (3 ∷ 6 ∷ [])
+    ∷ lexes (ascii " " ++ mark) (TokenKind.Whitespace ∷ TokenKind.InvalidCharError ∷ []) (1 ∷ 4 ∷ [])
     -- words and numbers
     ∷ lexes (ascii "const constx") (TokenKind.Const ∷ TokenKind.Whitespace ∷ TokenKind.Identifier ∷ []) (5 ∷ 6 ∷ 12 ∷ [])
     ∷ lexes (ascii "@a@") (TokenKind.BuiltinName ∷ TokenKind.AtWithoutIdentError ∷ []) (2 ∷ 3 ∷ [])
@@ -61,7 +66,7 @@ expected : Case → List ℕ × List ℕ
 expected c = (c .kinds ++ (TokenKind.Eof ∷ []), c .ends ++ (last (c .ends) ∷ []))
 
 cases-hold : map given table-of-cases ≡ map expected table-of-cases
-unfolding table-of-cases lexes given expected last tokensOf tokensFrom tokenAt longest rules punctuation keywords others matched spelled classed run identStart identPart blank digit upper lower isDigit lineComment blockComment number string invalidChar has follow sequenceBy table leadBits joined codePoint characterAt
+unfolding table-of-cases lexes given expected last isMarked tokensOf tokensFrom tokenAt longest rules punctuation keywords others matched spelled classed run identStart identPart blank digit upper lower isDigit lineComment blockComment number string invalidChar has follow sequenceBy table leadBits joined codePoint characterAt
 cases-hold = refl
 
 -- The smallest texts that aren't UTF-8 in each way (01, W1), with the refusal's number.

@@ -1,5 +1,6 @@
 -- Laws of the tokens of a text, read from an offset on, and of the words that lexing leaves.
 use mathlib.Core.Path.{_≡_, refl, sym, _∙_, ap}
+use mathlib.Core.Bool.{Bool, true, false}
 use mathlib.Core.List.{List, [], _∷_, _++_, map, append-nil, append-assoc}
 use Prim.Native.Nat.{ℕ, zero, suc, pred, _+_, _-_, _≤_, _<_}
 use native.Mathlib.Nat.{add-zero}
@@ -9,9 +10,14 @@ use lib.ListN.{length, getD, take, drop, set, replicate, drop-of-length-le, leng
 use lib.Seq.{drop-drop, drop-nil, take-all, take-suc-set, sets}
 use Rattle.words.specs.Token as TokenKind
 use Rattle.scan.specs.declared.Token.{Token}
-use Rattle.scan.specs.Lexer.{from, tokenAt, tokensFrom, tokensOf, word}
+use Rattle.scan.specs.Lexer.{from, tokenAt, tokensFrom, isMarked, tokensOf, word}
+use Rattle.scan.specs.Marked.{unmarked, behind-mark, mark-within}
 use Rattle.scan.specs.Laws.{ended, rest-cons}
 use Rattle.scan.specs.Fits.{token-fits}
+
+-- The tokens from an offset on.
+abbrev pub rest : List ℕ → ℕ → List Token
+rest text at = tokensFrom at 0 (drop at text)
 
 skip : (s : List ℕ) (at k : ℕ) → k ≤ length s → tokensFrom at k s ≡ tokensFrom (at + k) 0 (drop k s)
 unfolding tokensFrom
@@ -71,21 +77,21 @@ cleared-next ws i t h p =
     let e : length ws - i ≡ suc (length ws - (i + 1)) = omega arith in
     rw (add-one i, take-suc-set ws i 0 h, length-set) (append-assoc (take i ws) (0 ∷ []) _ ∙ (rw (e, add-one i) at p))
 
--- Filling: the tokens from `at` on, put from the n-th word on, make of the words what all tokens make of the lent ones.
-pub record Filling (text lent ws : List ℕ) (at n : ℕ) : Type 0 where
+-- Filling: the tokens from `at` on, put from the n-th word on, make of the words what those from `start` on make of the lent ones, from the word
+-- `first` on.
+pub record Filling (text lent : List ℕ) (start first : ℕ) (ws : List ℕ) (at n : ℕ) : Type 0 where
   pub within : at ≤ length text
   pub few : n ≤ at
-  pub count : n + length (tokensFrom at 0 (drop at text)) ≡ length (tokensOf text)
-  pub words : sets ws n (map word (tokensFrom at 0 (drop at text))) ≡ sets lent 0 (map word (tokensOf text))
+  pub count : n + length (rest text at) ≡ first + length (rest text start)
+  pub words : sets ws n (map word (rest text at)) ≡ sets lent first (map word (rest text start))
   pub kept : length ws ≡ length lent
 
-pub filling-first : (text lent : List ℕ) → Filling text lent lent 0 0
-unfolding tokensOf
-filling-first text lent = record { within = omega arith; few = omega arith; count = omega arith; words = refl; kept = refl }
+pub filling-first : (text lent : List ℕ) (start first : ℕ) → start ≤ length text → first ≤ start → Filling text lent start first lent start first
+filling-first text lent start first h g = record { within = h; few = g; count = refl; words = refl; kept = refl }
 
-module _ (text lent ws : List ℕ) (at n : ℕ) (f : Filling text lent ws at n) where
+module _ (text lent : List ℕ) (start first : ℕ) (ws : List ℕ) (at n : ℕ) (f : Filling text lent start first ws at n) where
   pub filling-next : (t : Token) (w : ℕ) (ws′ : List ℕ) → at < length text → t ≡ from at (tokenAt (drop at text)) → w ≡ word t → ws′ ≡ set ws n w
-      → Filling text lent ws′ (t .end) (n + 1)
+      → Filling text lent start first ws′ (t .end) (n + 1)
   filling-next t w ws′ h et ew es =
       let s = stepped text at t h et in
       record {
@@ -97,7 +103,7 @@ module _ (text lent ws : List ℕ) (at n : ℕ) (f : Filling text lent ws at n) 
       }
 
   pub filling-last : (w : ℕ) (ws′ : List ℕ) → length text ≤ at → w ≡ word (ended TokenKind.Eof at) → ws′ ≡ set ws n w
-      → (n + 1 ≡ length (tokensOf text)) × (ws′ ≡ sets lent 0 (map word (tokensOf text)))
+      → (n + 1 ≡ first + length (rest text start)) × (ws′ ≡ sets lent first (map word (rest text start)))
   filling-last w ws′ h ew es = (rw (over text at h) at (f .count), es ∙ (rw ew (rw (over text at h) at (f .words))))
 
 -- A text has at most one token for each byte, and Eof.
@@ -108,5 +114,19 @@ tokens-few (b ∷ s) at zero = let h = tokens-few s (suc at) (pred (tokenAt (b �
 tokens-few (b ∷ s) at (suc k) = let h = tokens-few s (suc at) k in omega arith
 
 pub tokens-count : (text : List ℕ) → length (tokensOf text) ≤ suc (length text)
-unfolding tokensOf
-tokens-count text = tokens-few text 0 0
+tokens-count text = go (isMarked text) refl
+  where
+    go : (t : Bool) → isMarked text ≡ t → length (tokensOf text) ≤ suc (length text)
+    go true e = rw (behind-mark text e) (omega (arith, tokens-few (drop 3 text) 3 0, length-drop 3 text, mark-within text e))
+    go false e = rw (unmarked text e) (tokens-few text 0 0)
+
+-- The whole: behind a mark, whose word `w` is put first, and without one.
+module _ (text lent : List ℕ) where
+  pub filled-behind : (w n : ℕ) (ws out : List ℕ) → isMarked text ≡ true → w ≡ word (ended TokenKind.Whitespace 3) → ws ≡ set lent 0 w
+      → (n ≡ 1 + length (rest text 3)) × (out ≡ sets ws 1 (map word (rest text 3)))
+      → (n ≡ length (tokensOf text)) × (out ≡ sets lent 0 (map word (tokensOf text)))
+  filled-behind w n ws out e ew es (en, eo) = rw (behind-mark text e) (omega (arith, en), eo ∙ (rw (es, ew)))
+
+  pub filled-all : (n : ℕ) (out : List ℕ) → isMarked text ≡ false → (n ≡ 0 + length (rest text 0)) × (out ≡ sets lent 0 (map word (rest text 0)))
+      → (n ≡ length (tokensOf text)) × (out ≡ sets lent 0 (map word (tokensOf text)))
+  filled-all n out e (en, eo) = rw (unmarked text e) (omega (arith, en), eo)

@@ -1,10 +1,11 @@
 // The lexer of Plank: `lex` gives a text's tokens as words, `spelling` the part of the text that a token covers.
 ghost use mathlib.Core.Path.{_≡_};
 ghost use mathlib.Core.List.{_++_, map};
-ghost use Prim.Native.Nat.{_-_, _≤_, _<_};
+ghost use Prim.Native.Nat.{_+_, _-_, _≤_, _<_};
 ghost use lib.ListN.{length, set, take, replicate};
 ghost use lib.Seq.{sets};
-ghost use Rattle.scan.specs.Lexer.{tokensOf, word};
+ghost use Rattle.scan.specs.Lexer.{longestText, tokensOf, word};
+ghost use Rattle.lexer.specs.Walk.{rest};
 ghost use Rattle.lexer.specs.Lex.{answer, lexed, lexedWords, notUtf8, startOf, spellingOf, spellingStart, Begins};
 pub use scan::LONGEST_TEXT;
 use utf8::Checked;
@@ -38,13 +39,14 @@ pub fn clear(words: &mut [u32], n: usize)
     }
 }
 
-// The tokens' words, as many as there is room for, and the number of tokens: each is read once, also where there is no room.
-fn fill(text: &[u8], words: &mut [u32]) -> usize
-    requires { ⌜ length (now text) ≤ 65536 ⌝ }
-    ensures { λ r. ⌜ (r ≡ length (tokensOf (now (text .entry)))) × (now (words .exit) ≡ sets (now (words .entry)) 0 (map word (tokensOf (now (text .entry))))) ⌝ }
+// The tokens from an offset on, put from a word on, as many as there is room for, and how many there are with those before: each is read once,
+// also where there is no room.
+fn fill_from(text: &[u8], words: &mut [u32], start: usize, first: usize) -> usize
+    requires { ⌜ (length (now text) ≤ longestText) × (start ≤ length (now text)) × (first ≤ start) ⌝ }
+    ensures { λ r. ⌜ (r ≡ first + length (rest (now (text .entry)) start)) × (now (words .exit) ≡ sets (now (words .entry)) first (map word (rest (now (text .entry)) start))) ⌝ }
 {
-    let mut at = 0;
-    let mut n = 0;
+    let mut at = start;
+    let mut n = first;
     while at < text.len() {
         let t = tokens::next_token(text, at);
         let end = t.end;
@@ -54,6 +56,18 @@ fn fill(text: &[u8], words: &mut [u32]) -> usize
     }
     put(words, n, words::token_word(token::EOF, at as u32));
     n + 1
+}
+
+// The tokens' words, and the number of tokens. A byte order mark in front is a token by itself.
+fn fill(text: &[u8], words: &mut [u32]) -> usize
+    requires { ⌜ length (now text) ≤ longestText ⌝ }
+    ensures { λ r. ⌜ (r ≡ length (tokensOf (now (text .entry)))) × (now (words .exit) ≡ sets (now (words .entry)) 0 (map word (tokensOf (now (text .entry))))) ⌝ }
+{
+    if scan::is_marked(text) {
+        put(words, 0, words::token_word(token::WHITESPACE, 3));
+        return fill_from(text, words, 3, 1);
+    }
+    fill_from(text, words, 0, 0)
 }
 
 // The number of the refusal of a text that isn't UTF-8, by the way in which it isn't.

@@ -9,7 +9,7 @@ use borrow.Author.Tests.{leb-true, leb-false, ne-eqb}
 use lib.Dec.{leb}
 use lib.ListN.{length, getD, take, drop, length-reverse, length-drop, drop-of-length-le}
 use lib.Seq.{take-suc, take-all, take-length, drop-cons, drop-length, length-take-le}
-use Rattle.position.specs.Position.{isNewline, isStart, count, untilNewline, before, positionAfter, positionOf, lineStart, lineEnd, sourceLine, behind}
+use Rattle.position.specs.Position.{isNewline, isStart, count, untilNewline, before, positionAfter, positionIn, lineStart, lineEnd, lineIn, behind}
 use Rattle.position.specs.declared.Position.{Position}
 
 -- An offset past the text is that of the text's end.
@@ -26,12 +26,12 @@ clip : (text : List ℕ) (at : ℕ) → (take (min at (length text)) text ≡ ta
 clip text at = clip-by text at (leb at (length text)) refl
 
 module _ (text : List ℕ) (at : ℕ) where
-  pub position-clip : positionOf text (min at (length text)) ≡ positionOf text at
-  unfolding positionOf before
+  pub position-clip : positionIn text (min at (length text)) ≡ positionIn text at
+  unfolding positionIn before
   position-clip = rw (clip text at .0)
 
-  pub line-clip : sourceLine text (min at (length text)) ≡ sourceLine text at
-  unfolding sourceLine lineStart lineEnd before
+  pub line-clip : lineIn text (min at (length text)) ≡ lineIn text at
+  unfolding lineIn lineStart lineEnd before
   line-clip = rw (clip text at .0, clip text at .1)
 
 module _ (text : List ℕ) (at : ℕ) (h : at ≤ length text) where
@@ -59,12 +59,12 @@ next-by b s false e =
     let k : 1 + (cond (isStart b) 1 0 + count isStart (untilNewline s)) ≡ 1 + count isStart (untilNewline s) + cond (isStart b) 1 0 = omega arith in
     simp (e, l, k)
 
-pub position-next : (text : List ℕ) (at : ℕ) → at < length text → positionOf text (at + 1) ≡ next (positionOf text at) (getD text at 0)
-unfolding positionOf
+pub position-next : (text : List ℕ) (at : ℕ) → at < length text → positionIn text (at + 1) ≡ next (positionIn text at) (getD text at 0)
+unfolding positionIn
 position-next text at h = rw before-next (next-by (getD text at 0) (before text at) (isNewline (getD text at 0)) refl)
 
-pub position-first : (text : List ℕ) → positionOf text 0 ≡ record { line = 1; column = 1 }
-unfolding positionOf before positionAfter count untilNewline
+pub position-first : (text : List ℕ) → positionIn text 0 ≡ record { line = 1; column = 1 }
+unfolding positionIn before positionAfter count untilNewline
 position-first text = refl
 
 -- No more is counted than there are bytes.
@@ -86,8 +86,8 @@ until-most (b ∷ s) = go (isNewline b) (until-most s)
     go true h = omega arith
     go false h = omega arith
 
-pub position-most : (text : List ℕ) (at : ℕ) → at ≤ length text → (positionOf text at .line ≤ at + 1) × (positionOf text at .column ≤ at + 1)
-unfolding positionOf positionAfter
+pub position-most : (text : List ℕ) (at : ℕ) → at ≤ length text → (positionIn text at .line ≤ at + 1) × (positionIn text at .column ≤ at + 1)
+unfolding positionIn positionAfter
 position-most text at h =
     omega (arith, before-length text at h, count-most isNewline (before text at), count-most isStart (untilNewline (before text at)), until-most (before text at))
 
@@ -123,6 +123,17 @@ end-last text = rw drop-length (omega (arith, before-length text (length text) (
 pub line-holds : (text : List ℕ) (at : ℕ) → at ≤ length text → (lineStart text at ≤ at) × (at ≤ lineEnd text at) × (lineEnd text at ≤ length text)
 unfolding lineStart lineEnd
 line-holds text at h = omega (arith, before-length text at h, until-most (drop at text), length-drop at text)
+
+-- A line that was found from an offset that may be past the text.
+pub line-found : (text : List ℕ) (at inside start end : ℕ) → inside ≡ min at (length text) → start ≡ lineStart text inside → end ≡ lineEnd text inside
+    → (record { start = start; end = end } ≡ lineIn text at) × (start ≤ length text) × (end ≤ length text)
+line-found text at inside start end e s t =
+    let held = line-holds text inside (omega arith) in
+    (rw (s, t, e) (unfold lineIn in line-clip text at), omega (arith, held), omega (arith, held))
+
+-- What is lent from an offset on.
+pub lent-from : (text : List ℕ) (at : ℕ) → take (length text - at) (drop at text) ≡ drop at text
+lent-from text at = take-all (length text - at) (drop at text) (omega (arith, length-drop at text))
 
 -- One byte is passed, and with it a newline, if it is one.
 pub behind-next : (text : List ℕ) (at n : ℕ) → at < length text → 0 < n → behind (drop at text) n ≡ 1 + behind (drop (at + 1) text) (n - cond (isNewline (getD text at 0)) 1 0)

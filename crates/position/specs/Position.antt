@@ -4,6 +4,7 @@ use mathlib.Core.Bool.{Bool, cond, _||_}
 use mathlib.Core.List.{List, [], _∷_, reverse}
 use lib.Dec.{eqb, ltb}
 use lib.ListN.{length, take, drop}
+use Rattle.scan.specs.Lexer.{isMarked}
 use Rattle.position.specs.declared.Position.{Position}
 use Rattle.position.specs.declared.Extent.{Extent}
 
@@ -32,8 +33,8 @@ before text offset = reverse (take offset text)
 unfoldable pub positionAfter : List ℕ → Position
 positionAfter s = record { line = 1 + count isNewline s; column = 1 + count isStart (untilNewline s) }
 
-unfoldable pub positionOf : List ℕ → ℕ → Position
-positionOf text offset = positionAfter (before text offset)
+unfoldable pub positionIn : List ℕ → ℕ → Position
+positionIn text offset = positionAfter (before text offset)
 
 -- Where the line of an offset starts: behind the last newline before the offset.
 unfoldable pub lineStart : List ℕ → ℕ → ℕ
@@ -43,8 +44,24 @@ lineStart text offset = length (before text offset) - length (untilNewline (befo
 unfoldable pub lineEnd : List ℕ → ℕ → ℕ
 lineEnd text offset = length (before text offset) + length (untilNewline (drop offset text))
 
+unfoldable pub lineIn : List ℕ → ℕ → Extent
+lineIn text offset = record { start = lineStart text offset; end = lineEnd text offset }
+
+-- A byte order mark in front is no part of the first line (01, W4): the line and its columns begin behind it, and offsets in it are the line's first.
+unfoldable pub markLength : List ℕ → ℕ
+markLength text = cond (isMarked text) 3 0
+
+abbrev pub behindMark : List ℕ → List ℕ
+behindMark text = drop (markLength text) text
+
+unfoldable pub positionOf : List ℕ → ℕ → Position
+positionOf text offset = positionIn (behindMark text) (offset - markLength text)
+
+abbrev pub movedBy : ℕ → Extent → Extent
+movedBy n x = record { start = n + x .start; end = n + x .end }
+
 unfoldable pub sourceLine : List ℕ → ℕ → Extent
-sourceLine text offset = record { start = lineStart text offset; end = lineEnd text offset }
+sourceLine text offset = movedBy (markLength text) (lineIn (behindMark text) (offset - markLength text))
 
 -- The offset behind so many newlines; the text's end where it has fewer.
 unfoldable pub behind : List ℕ → ℕ → ℕ

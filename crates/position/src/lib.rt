@@ -3,7 +3,7 @@ ghost use mathlib.Core.Path.{_≡_};
 ghost use mathlib.Core.Bool.{cond};
 ghost use Prim.Native.Nat.{_+_, _-_, _^_, _≤_, _<_, min};
 ghost use lib.ListN.{length};
-ghost use Rattle.position.specs.Position.{isNewline, isStart, positionOf, lineStart, lineEnd, sourceLine, behind, lineBehind};
+ghost use Rattle.position.specs.Position.{isNewline, isStart, positionIn, positionOf, lineStart, lineEnd, lineIn, markLength, sourceLine, behind, lineBehind};
 ghost use Rattle.position.specs.Laws.{next};
 
 pub struct Position {
@@ -56,9 +56,9 @@ fn past(p: Position, byte: u8) -> Position
     p
 }
 
-// The line and column of an offset.
-pub fn locate(text: &[u8], offset: usize) -> Position
-    ensures { λ r. ⌜ r ≡ positionOf (now (text .entry)) offset ⌝ }
+// The line and column of an offset where there is no mark.
+fn locate_in(text: &[u8], offset: usize) -> Position
+    ensures { λ r. ⌜ r ≡ positionIn (now (text .entry)) offset ⌝ }
 {
     let end = within(text, offset);
     let mut p = Position { line: 1, column: 1 };
@@ -98,14 +98,48 @@ fn line_end(text: &[u8], at: usize) -> usize
     end
 }
 
-// The line of an offset, without the newline that ends it.
-pub fn source_line(text: &[u8], offset: usize) -> Extent
-    ensures { λ r. ⌜ r ≡ sourceLine (now (text .entry)) offset ⌝ }
+// The line of an offset, without the newline that ends it, where there is no mark.
+fn line_in(text: &[u8], offset: usize) -> Extent
+    ensures { λ r. ⌜ (r ≡ lineIn (now (text .entry)) offset) × (r .start ≤ length (now (text .entry))) × (r .end ≤ length (now (text .entry))) ⌝ }
 {
     let at = within(text, offset);
     Extent {
         start: line_start(text, at),
         end: line_end(text, at),
+    }
+}
+
+// How many bytes a byte order mark takes in front.
+fn mark_length(text: &[u8]) -> usize
+    ensures { λ r. ⌜ (r ≡ markLength (now (text .entry))) × (r ≤ length (now (text .entry))) ⌝ }
+{
+    if scan::is_marked(text) { 3 } else { 0 }
+}
+
+// An offset counted from behind so many bytes; one before that is 0.
+fn offset_behind(offset: usize, bytes: usize) -> usize
+    ensures { λ r. ⌜ r ≡ offset - bytes ⌝ }
+{
+    if bytes < offset { offset - bytes } else { 0 }
+}
+
+// The line and column of an offset.
+pub fn locate(text: &[u8], offset: usize) -> Position
+    ensures { λ r. ⌜ r ≡ positionOf (now (text .entry)) offset ⌝ }
+{
+    let mark = mark_length(text);
+    locate_in(&text[mark..], offset_behind(offset, mark))
+}
+
+// The line of an offset, without the newline that ends it.
+pub fn source_line(text: &[u8], offset: usize) -> Extent
+    ensures { λ r. ⌜ r ≡ sourceLine (now (text .entry)) offset ⌝ }
+{
+    let mark = mark_length(text);
+    let line = line_in(&text[mark..], offset_behind(offset, mark));
+    Extent {
+        start: mark + line.start,
+        end: mark + line.end,
     }
 }
 

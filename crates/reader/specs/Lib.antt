@@ -3,4 +3,5 @@ pub mod Cases
 pub mod Kinds
 pub mod Rows
 pub mod Demand
+pub mod Marked
 pub mod Joined

@@ -21,7 +21,9 @@ use Rattle.utf8.specs.Utf8.{checked}
 use Rattle.utf8.specs.declared.Checked.{Checked}
 use Rattle.utf8.specs.declared.Checked.the-variants.{Good, Bad}
 use Rattle.scan.specs.declared.Token.{Token as LexToken}
-use Rattle.scan.specs.Lexer.{longestText, from, tokenAt, tokensFrom, tokensOf, word}
+use Rattle.scan.specs.Lexer.{longestText, from, tokenAt, tokensFrom, isMarked, tokensOf, word}
+use Rattle.scan.specs.Laws.{ended}
+use Rattle.scan.specs.Marked.{unmarked, behind-mark, mark-within}
 use Rattle.lexer.specs.Lex.{notUtf8, lexed, lexedWords}
 use Rattle.scan.specs.Longest.{and-both}
 use Rattle.lexer.specs.Walk.{Stepped, stepped, over, tokens-count}
@@ -121,8 +123,16 @@ module _ (text : List ℕ) (short : length text ≤ 65536) where
       go false e ih = laid-last at g (ltb-false at (length text) e)
 
   all-laid : Laid (length text) 0 (map word (tokensOf text))
-  unfolding tokensOf
-  all-laid = laid-from (length text) 0 (omega arith) (omega arith)
+  all-laid = go (isMarked text) refl
+    where
+      go : (b : Bool) → isMarked text ≡ b → Laid (length text) 0 (map word (tokensOf text))
+      go true e =
+          let end : tokenEnd (word (ended Token.Whitespace 3)) ≡ 3 = low-pack 25 Token.Whitespace 3 (lit< tt) in
+          let kind : tokenKind (word (ended Token.Whitespace 3)) ≡ Token.Whitespace = high-pack 25 Token.Whitespace 3 (lit< tt) in
+          let n : eqb (tokenKind (word (ended Token.Whitespace 3))) Token.Eof ≡ false = rw kind (ne-eqb Token.Whitespace Token.Eof (λ e. omega arith)) in
+          let l : Laid (length text) (tokenEnd (word (ended Token.Whitespace 3))) (map word (tokensFrom 3 0 (drop 3 text))) = rw end (laid-from (length text) 3 (omega arith) (mark-within text e)) in
+          rw (behind-mark text e) (next-word {at = 0} n (omega arith) (omega (arith, mark-within text e)) l)
+      go false e = rw (unmarked text e) (laid-from (length text) 0 (omega arith) (omega arith))
 
 -- The tokens of a text that was lexed lie so.
 pub lexed-laid : (text : List ℕ) (lent n : ℕ) → lexed text lent ≡ done (n ∷ []) → Laid (length text) 0 (take n (lexedWords text lent))

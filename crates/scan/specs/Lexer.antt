@@ -240,9 +240,19 @@ tokensFrom at skip [] = record { kind = TokenKind.Eof; end = at } ∷ []
 tokensFrom at zero (b ∷ s) = from at (tokenAt (b ∷ s)) ∷ tokensFrom (suc at) (pred (tokenAt (b ∷ s) .len)) s
 tokensFrom at (suc skip) (b ∷ s) = tokensFrom (suc at) skip s
 
--- The tokens of a text, Eof last: `Lexed::lex`.
+-- The byte order mark: "EF BB BF (hexadecimal)" (01, W4).
+abbrev pub mark : List ℕ
+mark = 0xEF ∷ 0xBB ∷ 0xBF ∷ []
+
+unfoldable pub isMarked : List ℕ → Bool
+isMarked text = spelled mark text
+
+-- The tokens of a text, Eof last: `Lexed::lex`. "At offset 0 the mark alone becomes one Whitespace token of three bytes; elsewhere it is read as
+-- before." (01, W4)
 unfoldable pub tokensOf : List ℕ → List Token
-tokensOf text = tokensFrom 0 0 text
+tokensOf text =
+    cond (isMarked text) (record { kind = TokenKind.Whitespace; end = 3 } ∷ tokensFrom 3 0 (drop 3 text))
+    (tokensFrom 0 0 text)
 
 abbrev pub word : Token → ℕ
 word t = tokenWord (t .kind) (t .end)

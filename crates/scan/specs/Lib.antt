@@ -4,5 +4,6 @@ pub mod Bytes
 pub mod Lexer
 pub mod Laws
 pub mod Comments
+pub mod Marked
 pub mod Longest
 pub mod Fits

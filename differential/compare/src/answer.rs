@@ -1,6 +1,6 @@
 //! What a call answers and leaves in the lent slice, and what it should, by the reference.
 
-use crate::{fault::Fault, utf8};
+use crate::{fault::Fault, mark, utf8};
 
 pub const MOST_BYTES: usize = 65_536;
 
@@ -44,7 +44,7 @@ impl Reference {
         }
         match utf8::checked(text) {
             Ok(text) => {
-                Reference::Tokens(fault.map_or_else(|| oracle::lex(text), |fault| fault.lex(text)))
+                Reference::Tokens(fault.map_or_else(|| mark::lex(text), |fault| fault.lex(text)))
             }
             Err((number, place)) => Reference::Refused { number, place },
         }

@@ -3,7 +3,7 @@
 mod places;
 
 use crate::{
-    library,
+    library, mark,
     options::ChartOptions,
     read::{Answer, Lent},
     run::shown,
@@ -153,7 +153,7 @@ fn generated(chart: &Chart, options: &ChartOptions, tally: &mut Tally) {
 fn row_of(text: &str) -> Option<Vec<u8>> {
     let mut row = Vec::new();
     let mut start = 0;
-    for word in oracle::lex(text) {
+    for word in mark::lex(text) {
         let (kind, end) = ((word >> 25) as u8, (word & 0x1ff_ffff) as usize);
         match kind {
             72..=74 | 81 => {}

@@ -1,5 +1,8 @@
 //! Planted faults, to show that the comparison can fail.
 
+use crate::mark;
+
+const WHITESPACE: u32 = 72;
 const LINE_COMMENT: u32 = 73;
 const BLOCK_COMMENT: u32 = 74;
 const UNCLOSED_BLOCK_COMMENT_ERROR: u32 = 79;
@@ -14,9 +17,12 @@ pub enum Fault {
     Return,
     /// The count of open comments has 15 bits: the 32,768th that is opened closes all.
     Count,
+    /// A byte order mark is one token with the blanks behind it.
+    Mark,
 }
 
-pub const FAULTS: [(&str, Fault); 2] = [("return", Fault::Return), ("count", Fault::Count)];
+pub const FAULTS: [(&str, Fault); 3] =
+    [("return", Fault::Return), ("count", Fault::Count), ("mark", Fault::Mark)];
 
 impl Fault {
     /// The reference's tokens, but for those that the fault ends otherwise: the rest of the text is
@@ -27,7 +33,7 @@ impl Fault {
         loop {
             let rest = &text[start..];
             let moved = |word: &u32| word + start as u32;
-            let tokens = oracle::lex(rest);
+            let tokens = if start == 0 { self.tokens(rest) } else { oracle::lex(rest) };
             let Some((number, kind, end)) = self.first(rest, &tokens) else {
                 words.extend(tokens.iter().map(moved));
                 return words;
@@ -36,6 +42,16 @@ impl Fault {
             start += end;
             words.push(kind << END_BITS | start as u32);
         }
+    }
+
+    /// The tokens of a whole text, before any is ended otherwise.
+    fn tokens(self, text: &str) -> Vec<u32> {
+        let mut tokens = mark::lex(text);
+        let is_joined = text.starts_with(mark::MARK) && tokens[1] >> END_BITS == WHITESPACE;
+        if self == Fault::Mark && is_joined {
+            tokens.remove(0);
+        }
+        tokens
     }
 
     /// The first token that the fault ends otherwise: its number, then its kind and end.
@@ -102,9 +118,15 @@ mod tests {
     }
 
     #[test]
+    fn a_mark_is_joined_with_blanks() {
+        assert_eq!(tokens(Fault::Mark, "\u{feff} ;"), [(72, 4), (0, 5), (81, 5)]);
+        assert_eq!(tokens(Fault::Mark, "\u{feff};"), [(72, 3), (0, 4), (81, 4)]);
+    }
+
+    #[test]
     fn other_texts_are_as_before() {
-        for text in ["", "a\r", "//a\n", "//a\r", "/* \r */", "/*/**/*/;/*"] {
-            for fault in [Fault::Return, Fault::Count] {
+        for text in ["", "a\r", "//a\n", "//a\r", "/* \r */", "/*/**/*/;/*", " ;"] {
+            for fault in [Fault::Return, Fault::Count, Fault::Mark] {
                 assert_eq!(fault.lex(text), oracle::lex(text), "{text:?}");
             }
         }

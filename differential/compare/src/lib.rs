@@ -6,6 +6,7 @@ mod check;
 mod fault;
 mod fuzzed;
 mod library;
+mod mark;
 mod options;
 mod read;
 mod record;

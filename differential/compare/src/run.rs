@@ -1,7 +1,7 @@
 //! The run over all texts, and what a run counts.
 
 use crate::{check::first_difference, options::LexOptions, shrink::shrink};
-use generate::{Texts, short_byte_texts, short_texts, texts_around_the_limit};
+use generate::{Texts, behind_mark, short_byte_texts, short_texts, texts_around_the_limit};
 use std::{fmt::Display, panic, process::ExitCode, thread};
 
 /// So many differing texts are kept and shown.
@@ -16,6 +16,8 @@ pub fn lex(options: &LexOptions) -> ExitCode {
     }
     run.all("generated", Texts::new(options.seed).take(options.texts), differs);
     run.all("around the limit", texts_around_the_limit(), differs);
+    let marked = Texts::new(options.seed).take(options.texts / 2).map(behind_mark);
+    run.all("with a mark in front", marked, differs);
     run.all("short", short_texts(), differs);
     run.all("short, of any bytes", short_byte_texts(), differs);
     run.show_first(difference);

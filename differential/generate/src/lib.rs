@@ -21,7 +21,7 @@ pub use rng::Rng;
 pub use rows::short_rows;
 pub use script::{damaged_script, script};
 pub use short::{short_byte_texts, short_texts};
-pub use sized::{long_texts, texts_around_the_limit};
+pub use sized::{behind_mark, long_texts, texts_around_the_limit};
 pub use soup::TOKENS;
 
 /// An endless row of texts of all sorts, most of them below two thousand bytes.

@@ -80,6 +80,11 @@ fn filled(filling: &str, length: usize) -> Vec<u8> {
     filling.bytes().cycle().take(length).collect()
 }
 
+/// A text with a byte order mark in front.
+pub fn behind_mark(text: Vec<u8>) -> Vec<u8> {
+    ["\u{feff}".as_bytes(), &text].concat()
+}
+
 /// So many comments opened, and closed as often as fits.
 fn nested_comments(opened: usize) -> Vec<u8> {
     let closed = opened.min(LIMIT / 2 - opened);

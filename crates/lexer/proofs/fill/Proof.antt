@@ -1,122 +1,60 @@
--- `fill` meets its contract: the tokens from `at` on, put from `n` on, make the words that all tokens make.
-use mathlib.Core.Path.{_∙_}
-use Prim.Native.Nat.{_-_}
-use lib.ListN.{length}
-use Rattle.lexer.specs.Walk.{Filling, filling-first, filling-next, filling-last, stepped}
-use Rattle.tokens.specs.Next.{next-inside}
-use borrow.Author.Needs.{needs}
+-- `fill` meets its contract, behind a mark and without one.
+use mathlib.Core.Path.{sym, _∙_}
 use native.Mathlib.Omega.{arith}
+use borrow.Author.Needs.{needs}
+use Rattle.scan.specs.Marked.{mark-within}
+use Rattle.lexer.specs.Walk.{filled-behind, filled-all}
 use Rattle.lexer.proofs.fill.Statement.{statement}
 use Rattle.lexer.proofs.fill.Tie as tie
 
-abbrev Inv-loop : tie.InvT-loop
-Inv-loop text words₀ at₀ n₀ words at n = Filling text words₀ words at n
+is-marked-requires : tie.Need-is-marked-requires
+is-marked-requires c κs = search needs
 
-abbrev μ-loop : tie.MeasureT-loop
-μ-loop text words₀ at₀ n₀ words at n = length text - at
-
-loop-holds : tie.Need-loop-holds Inv-loop μ-loop
-loop-holds c = filling-first _ _
-
-next-token-requires : tie.Need-next-token-requires Inv-loop μ-loop
-next-token-requires c κs = search needs
-
-cast-token-word : tie.Need-cast-token-word Inv-loop μ-loop
-cast-token-word c =
-    let at-next-token = c .before in
-    let at-loop-test = at-next-token .before in
-    let at-pre = at-loop-test .before .before .before .before in
-    omega (
-      arith,
-      stepped _ _ _ (at-loop-test .loop-test .taken)
-          (next-inside (at-pre .args .text .now) _ (at-pre .pre) _ (at-loop-test .loop-test .taken) (at-next-token .next-token .ensures)) .within,
-      at-pre .pre,
-    )
-
-token-word-requires : tie.Need-token-word-requires Inv-loop μ-loop
+token-word-requires : tie.Need-token-word-requires
 token-word-requires c κs = search needs
 
-put-requires : tie.Need-put-requires Inv-loop μ-loop
+put-requires : tie.Need-put-requires
 put-requires c κs = search needs
 
-add-n : tie.Need-add-n Inv-loop μ-loop
-add-n c =
-    let at-loop-test = c .before .before .before .before .before .before in
-    let at-loop = at-loop-test .before in
-    omega (arith, at-loop .loop .inv .few, at-loop-test .loop-test .taken)
+fill-from-requires : tie.Need-fill-from-requires
+fill-from-requires c κs =
+    let at-if = c .before .before .before .before .before .before in
+    (search needs, mark-within _ (sym (at-if .before .is-marked .ensures) ∙ at-if .if1 .taken), omega arith)
 
-loop-less : tie.Need-loop-less Inv-loop μ-loop
-loop-less c =
-    let at-next-token = c .before .before .before .before .before in
-    let at-loop-test = at-next-token .before in
-    let at-pre = at-loop-test .before .before .before .before in
-    omega (
-      arith,
-      at-loop-test .loop-test .taken,
-      stepped _ _ _ (at-loop-test .loop-test .taken)
-          (next-inside (at-pre .args .text .now) _ (at-pre .pre) _ (at-loop-test .loop-test .taken) (at-next-token .next-token .ensures)) .on,
-    )
+same-length : tie.Need-same-length
+same-length c = search needs
 
-loop-again : tie.Need-loop-again Inv-loop μ-loop
-loop-again c =
-    let at-put = c .before .before in
-    let at-token-word = at-put .before in
-    let at-next-token = at-token-word .before .before in
-    let at-loop-test = at-next-token .before in
-    let at-loop = at-loop-test .before in
-    let at-pre = at-loop .before .before .before in
-    filling-next _ _ _ _ _ (at-loop .loop .inv) _ _ _ (at-loop-test .loop-test .taken)
-    (next-inside (at-pre .args .text .now) _ (at-pre .pre) _ (at-loop-test .loop-test .taken) (at-next-token .next-token .ensures)) (at-token-word .token-word .ensures)
-    (at-put .put .ensures)
-
-cast-token-word-2 : tie.Need-cast-token-word-2 Inv-loop μ-loop
-cast-token-word-2 c =
-    let at-loop = c .before .before in
-    let at-pre = at-loop .before .before .before in
-    omega (arith, at-loop .loop .inv .within, at-pre .pre)
-
-token-word-requires-2 : tie.Need-token-word-requires-2 Inv-loop μ-loop
-token-word-requires-2 c κs = search needs
-
-put-requires-2 : tie.Need-put-requires-2 Inv-loop μ-loop
-put-requires-2 c κs = search needs
-
-add-result : tie.Need-add-result Inv-loop μ-loop
-add-result c =
-    let at-loop = c .before .before .before .before .before .before in
-    omega (arith, at-loop .loop .inv .few, at-loop .loop .inv .within)
-
-same-length : tie.Need-same-length Inv-loop μ-loop
-same-length c =
-    let at-put2 = c .before .before in
-    let at-loop = at-put2 .before .before .before .before in
-    at-put2 .put2 .kept .0 ∙ at-loop .loop .inv .kept
-
-returns : tie.Need-returns Inv-loop μ-loop
+returns : tie.Need-returns
 returns c =
-    let at-put2 = c .before .before in
-    let at-token-word2 = at-put2 .before in
-    let at-loop-test = at-token-word2 .before .before in
-    let at-loop = at-loop-test .before in
-    filling-last _ _ _ _ _ (at-loop .loop .inv) _ _ (at-loop-test .loop-test .left) (at-token-word2 .token-word2 .ensures) (at-put2 .put2 .ensures)
+    let at-fill-from = c .before .before in
+    let at-put = at-fill-from .before .before .before .before in
+    let at-token-word = at-put .before in
+    let at-if = at-token-word .before .before in
+    filled-behind _ _ _ _ _ _ (sym (at-if .before .is-marked .ensures) ∙ at-if .if1 .taken) (at-token-word .token-word .ensures) (at-put .put .ensures)
+    (at-fill-from .fill-from .ensures)
+
+fill-from-requires-2 : tie.Need-fill-from-requires-2
+fill-from-requires-2 c κs = search needs
+
+same-length-2 : tie.Need-same-length-2
+same-length-2 c = search needs
+
+returns-2 : tie.Need-returns-2
+returns-2 c =
+    let at-fill-from = c .before .before in
+    let at-if = at-fill-from .before .before in
+    filled-all _ _ _ _ (sym (at-if .before .is-marked .ensures) ∙ at-if .if1 .left) (at-fill-from .fill-from2 .ensures)
 
 pub fill-spec : {M : Type 1} → statement M
 fill-spec =
     tie.close
     (tie.spec
-    Inv-loop
-    μ-loop
-    loop-holds
-    next-token-requires
-    cast-token-word
+    is-marked-requires
     token-word-requires
     put-requires
-    add-n
-    loop-less
-    loop-again
-    cast-token-word-2
-    token-word-requires-2
-    put-requires-2
-    add-result
+    fill-from-requires
     same-length
-    returns)
+    returns
+    fill-from-requires-2
+    same-length-2
+    returns-2)

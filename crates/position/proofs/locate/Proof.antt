@@ -1,69 +1,44 @@
--- `locate` meets its contract. The loop's invariant: `p` is the position of `at`. The measure is what is left up to the end.
-use mathlib.Core.Path.{_≡_, sym, _∙_, ap}
-use Prim.Native.Nat.{_-_, _≤_}
-use native.Mathlib.Omega.{arith}
-use Rattle.position.specs.Position.{positionOf}
-use Rattle.position.specs.Laws.{position-clip, position-first, position-most, position-next}
+-- `locate` meets its contract: it looks at what stands behind a mark.
 use borrow.Author.Needs.{needs}
+use Rattle.position.specs.Position.{positionOf}
+use Rattle.position.specs.Laws.{lent-from}
 use Rattle.position.proofs.locate.Statement.{statement}
 use Rattle.position.proofs.locate.Tie as tie
 
-abbrev Inv-loop : tie.InvT-loop
-Inv-loop text offset end p₀ at₀ p at = (at ≤ end) × (p ≡ positionOf text at)
+mark-length-requires : tie.Need-mark-length-requires
+mark-length-requires c κs = search needs
 
-abbrev μ-loop : tie.MeasureT-loop
-μ-loop text offset end p₀ at₀ p at = end - at
+sub-locate-in : tie.Need-sub-locate-in
+sub-locate-in c = search needs
 
-within-requires : tie.Need-within-requires Inv-loop μ-loop
-within-requires c κs = search needs
+part-locate-in-start : tie.Need-part-locate-in-start
+part-locate-in-start c = search needs
 
-loop-holds : tie.Need-loop-holds Inv-loop μ-loop
-loop-holds c = (search needs, sym (position-first _))
+part-locate-in-end : tie.Need-part-locate-in-end
+part-locate-in-end c = search needs
 
-shared-slice-read-past : tie.Need-shared-slice-read-past Inv-loop μ-loop
-shared-slice-read-past c = omega (arith, c .before .before .before .within .ensures)
+offset-behind-requires : tie.Need-offset-behind-requires
+offset-behind-requires c κs = search needs
 
-past-requires : tie.Need-past-requires Inv-loop μ-loop
-past-requires c κs =
-    let at-loop = c .before .before in
-    let at-within = at-loop .before in
-    let at-args = at-within .before .before in
-    rw (at-loop .loop .inv .1) (omega (
-      arith,
-      position-most (at-args .args .text .now) (at-loop .loop .at)
-          (omega (arith, at-within .within .ensures)),
-    ))
+locate-in-requires : tie.Need-locate-in-requires
+locate-in-requires c κs = search needs
 
-add-at : tie.Need-add-at Inv-loop μ-loop
-add-at c = omega (arith, c .before .before .before .before .within .ensures)
-
-loop-less : tie.Need-loop-less Inv-loop μ-loop
-loop-less c = omega arith
-
-loop-again : tie.Need-loop-again Inv-loop μ-loop
-loop-again c =
-    let at-loop = c .before .before .before in
-    let at-within = at-loop .before in
-    let at-args = at-within .before .before in (
-      search needs,
-      c .past .ensures ∙ rw (at-loop .loop .inv .1)
-          (sym (position-next (at-args .args .text .now) (at-loop .loop .at) (omega (arith, at-within .within .ensures)))),
-    )
-
-returns : tie.Need-returns Inv-loop μ-loop
-returns c = c .before .loop .inv .1 ∙ ap (positionOf (c .before .before .before .before .args .text .now)) (omega (arith, c .before .before .within .ensures)) ∙ position-clip (c .before .before .before .before .args .text .now) (c .before .before .before .before .args .offset)
+returns : tie.Need-returns
+unfolding positionOf
+returns c =
+    let at-offset-behind = c .before in
+    let at-mark-length = at-offset-behind .before .before in
+    let found = rw (lent-from (at-mark-length .before .before .args .text .now) (at-mark-length .mark-length .result)) at (c .locate-in .ensures) in
+    rw (← at-mark-length .mark-length .ensures .0, ← at-offset-behind .offset-behind .ensures) found
 
 pub locate-spec : {M : Type 1} → statement M
 locate-spec =
     tie.close
     (tie.spec
-    Inv-loop
-    μ-loop
-    within-requires
-    loop-holds
-    shared-slice-read-past
-    past-requires
-    add-at
-    loop-less
-    loop-again
+    mark-length-requires
+    sub-locate-in
+    part-locate-in-start
+    part-locate-in-end
+    offset-behind-requires
+    locate-in-requires
     returns)

@@ -6,7 +6,7 @@
 //! and report words are lent, and the refusal's number and place; 0 and 0 where it is done.
 
 use crate::{
-    fuzzed,
+    fuzzed, mark,
     read::{corners::CORNERS, features::features, lengths::lengths},
     record::{number, save},
 };
@@ -87,7 +87,7 @@ struct Record {
 impl Record {
     /// None where the reference panics.
     fn of(text: &str) -> Option<Record> {
-        let run = oracle::run(text);
+        let run = mark::run(text);
         let is_answered = !matches!(run.end, End::Panicked(_));
         is_answered.then(|| Record { text: text.to_string(), run })
     }

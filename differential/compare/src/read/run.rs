@@ -11,9 +11,10 @@ use crate::{
     run::{Run, in_a_thread},
 };
 use generate::{
-    NameTexts, ParseTexts, Texts, long_texts, nests, short_rows, texts_around_the_limit,
+    NameTexts, ParseTexts, Texts, behind_mark, long_texts, nests, short_rows,
+    texts_around_the_limit,
 };
-use std::{fmt, process::ExitCode};
+use std::{fmt, iter, process::ExitCode};
 
 pub fn run(options: &ReadOptions) -> ExitCode {
     in_a_thread(|| run_all(options))
@@ -37,6 +38,8 @@ fn run_all(options: &ReadOptions) -> ExitCode {
     all("with many names", &mut named.map(String::into_bytes));
     let limit_texts = texts_around_the_limit();
     all("as long as may be", &mut long_texts().map(String::into_bytes).chain(limit_texts));
+    let marked = ParseTexts::new(options.seed).take(options.texts / 4).map(String::into_bytes);
+    all("with a mark in front", &mut marked.chain(iter::once(Vec::new())).map(behind_mark));
     all("generated, of any bytes", &mut Texts::new(options.seed).take(options.texts / 2));
     print!("{tally}");
     run.show_first(|text| difference_in(text, fault, &mut Tally::default()));
