@@ -24,6 +24,7 @@ for compiler in "cc -std=c11" "c++ -x c++ -std=c++11"; do
     diff <("$built/example" scripts/plot.plank) <(printf 'const PLOT_RADIUS_CM\nconst basal\n')
     diff <("$built/example" < scripts/radius.plank) <(printf 'const radius\n')
     diff <(printf 'const a 1;' | "$built/example") <(printf 'report 2 detail 67 from 8 to 9\nconst a\n')
+    diff <(printf '\357\273\277const a 1;' | "$built/example") <(printf 'report 2 detail 67 from 11 to 12\nconst a\n')
     diff <(printf '\200' | "$built/example" || echo "status $?") <(printf 'refused 1 place 0\nstatus 1\n')
     diff <(printf 'a\342\202b' | "$built/example" || echo "status $?") <(printf 'refused 9 place 1\nstatus 1\n')
     diff <(printf 'a\342\202' | "$built/example" || echo "status $?") <(printf 'refused 10 place 1\nstatus 1\n')

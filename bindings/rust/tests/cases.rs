@@ -72,6 +72,30 @@ fn p2_to_p5_are_tokens() {
 }
 
 #[test]
+fn a_byte_order_mark_in_front_is_a_blank() {
+    let blank = Token::Whitespace;
+    assert_eq!(tokens("\u{feff}"), [blank, Token::Eof]);
+    assert_eq!(tokens("\u{feff} ;"), [blank, blank, Token::Semicolon, Token::Eof]);
+    assert_eq!(tokens("\u{feff}\u{feff}"), [blank, Token::InvalidCharError, Token::Eof]);
+    assert_eq!(tokens(" \u{feff}"), [blank, Token::InvalidCharError, Token::Eof]);
+
+    // The tree is that of the text behind the mark; all token numbers but File's first are one higher.
+    const IDENTIFIER: u32 = 36;
+    let text = "const a = 1;";
+    let (plain, marked) =
+        (plank::parse(text).unwrap(), plank::parse(&format!("\u{feff}{text}")).unwrap());
+    let mut nodes = plain.node_words().to_vec();
+    for (number, node) in nodes.chunks_exact_mut(NODE_WIDTH).enumerate() {
+        node[0] += u32::from(node[0] >> 26 == IDENTIFIER);
+        node[1] += u32::from(number > 0);
+        node[2] += 1;
+    }
+    assert_eq!(marked.node_words(), nodes);
+    assert_eq!(marked.value_words(), plain.value_words());
+    assert_eq!(marked.reports().len(), 0);
+}
+
+#[test]
 fn p6_and_p7_group_as_the_chart_has_it() {
     assert_eq!(value("a - b - c"), ("(- (- a b) c)".to_string(), vec![]));
     assert_eq!(value("-a.b"), ("(- (. a b))".to_string(), vec![]));

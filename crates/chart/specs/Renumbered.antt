@@ -1,5 +1,5 @@
 -- Law: no rule of the chart looks at the number of a token, so rows that agree in kinds and spellings are derived alike.
-use mathlib.Core.Path.{_≡_, refl}
+use mathlib.Core.Path.{_≡_}
 use mathlib.Core.Bool.{false}
 use mathlib.Core.List.{List, [], _∷_}
 use Prim.Native.Nat.{ℕ}

@@ -9,7 +9,7 @@ use Rattle.words.specs.Order.{counted}
 use Rattle.utf8.specs.Utf8.{has, follow, sequenceBy, table, checkedFrom, leadBits, joined, codePoint, characterAt}
 use Rattle.scan.specs.Bytes.{ascii, digit, upper, lower, identStart, identPart, blank, isDigit}
 use Rattle.lexer.specs.Lex.{lexed}
-use Rattle.scan.specs.Lexer.{mark, isMarked, tokensOf, tokensFrom, tokenAt, longest, rules, punctuation, keywords, others, matched, spelled, classed, run, string, number, blockComment, lineComment, invalidChar}
+use Rattle.scan.specs.Lexer.{mark, hasMark, tokensOf, tokensFrom, tokenAt, longest, rules, punctuation, keywords, others, matched, spelled, classed, run, string, number, blockComment, lineComment, invalidChar}
 
 -- A case: its text, and the kinds and ends of its tokens but Eof.
 record Case : Type 0 where
@@ -66,7 +66,7 @@ expected : Case → List ℕ × List ℕ
 expected c = (c .kinds ++ (TokenKind.Eof ∷ []), c .ends ++ (last (c .ends) ∷ []))
 
 cases-hold : map given table-of-cases ≡ map expected table-of-cases
-unfolding table-of-cases lexes given expected last isMarked tokensOf tokensFrom tokenAt longest rules punctuation keywords others matched spelled classed run identStart identPart blank digit upper lower isDigit lineComment blockComment number string invalidChar has follow sequenceBy table leadBits joined codePoint characterAt
+unfolding table-of-cases lexes given expected last hasMark tokensOf tokensFrom tokenAt longest rules punctuation keywords others matched spelled classed run identStart identPart blank digit upper lower isDigit lineComment blockComment number string invalidChar has follow sequenceBy table leadBits joined codePoint characterAt
 cases-hold = refl
 
 -- The smallest texts that aren't UTF-8 in each way (01, W1), with the refusal's number.

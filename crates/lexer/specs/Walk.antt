@@ -10,7 +10,7 @@ use lib.ListN.{length, getD, take, drop, set, replicate, drop-of-length-le, leng
 use lib.Seq.{drop-drop, drop-nil, take-all, take-suc-set, sets}
 use Rattle.words.specs.Token as TokenKind
 use Rattle.scan.specs.declared.Token.{Token}
-use Rattle.scan.specs.Lexer.{from, tokenAt, tokensFrom, isMarked, tokensOf, word}
+use Rattle.scan.specs.Lexer.{from, tokenAt, tokensFrom, hasMark, tokensOf, word}
 use Rattle.scan.specs.Marked.{unmarked, behind-mark, mark-within}
 use Rattle.scan.specs.Laws.{ended, rest-cons}
 use Rattle.scan.specs.Fits.{token-fits}
@@ -114,19 +114,19 @@ tokens-few (b ∷ s) at zero = let h = tokens-few s (suc at) (pred (tokenAt (b �
 tokens-few (b ∷ s) at (suc k) = let h = tokens-few s (suc at) k in omega arith
 
 pub tokens-count : (text : List ℕ) → length (tokensOf text) ≤ suc (length text)
-tokens-count text = go (isMarked text) refl
+tokens-count text = go (hasMark text) refl
   where
-    go : (t : Bool) → isMarked text ≡ t → length (tokensOf text) ≤ suc (length text)
+    go : (t : Bool) → hasMark text ≡ t → length (tokensOf text) ≤ suc (length text)
     go true e = rw (behind-mark text e) (omega (arith, tokens-few (drop 3 text) 3 0, length-drop 3 text, mark-within text e))
     go false e = rw (unmarked text e) (tokens-few text 0 0)
 
 -- The whole: behind a mark, whose word `w` is put first, and without one.
 module _ (text lent : List ℕ) where
-  pub filled-behind : (w n : ℕ) (ws out : List ℕ) → isMarked text ≡ true → w ≡ word (ended TokenKind.Whitespace 3) → ws ≡ set lent 0 w
+  pub filled-behind : (w n : ℕ) (ws out : List ℕ) → hasMark text ≡ true → w ≡ word (ended TokenKind.Whitespace 3) → ws ≡ set lent 0 w
       → (n ≡ 1 + length (rest text 3)) × (out ≡ sets ws 1 (map word (rest text 3)))
       → (n ≡ length (tokensOf text)) × (out ≡ sets lent 0 (map word (tokensOf text)))
   filled-behind w n ws out e ew es (en, eo) = rw (behind-mark text e) (omega (arith, en), eo ∙ (rw (es, ew)))
 
-  pub filled-all : (n : ℕ) (out : List ℕ) → isMarked text ≡ false → (n ≡ 0 + length (rest text 0)) × (out ≡ sets lent 0 (map word (rest text 0)))
+  pub filled-all : (n : ℕ) (out : List ℕ) → hasMark text ≡ false → (n ≡ 0 + length (rest text 0)) × (out ≡ sets lent 0 (map word (rest text 0)))
       → (n ≡ length (tokensOf text)) × (out ≡ sets lent 0 (map word (tokensOf text)))
   filled-all n out e (en, eo) = rw (unmarked text e) (omega (arith, en), eo)

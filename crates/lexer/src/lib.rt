@@ -63,7 +63,7 @@ fn fill(text: &[u8], words: &mut [u32]) -> usize
     requires { ⌜ length (now text) ≤ longestText ⌝ }
     ensures { λ r. ⌜ (r ≡ length (tokensOf (now (text .entry)))) × (now (words .exit) ≡ sets (now (words .entry)) 0 (map word (tokensOf (now (text .entry))))) ⌝ }
 {
-    if scan::is_marked(text) {
+    if scan::has_mark(text) {
         put(words, 0, words::token_word(token::WHITESPACE, 3));
         return fill_from(text, words, 3, 1);
     }

@@ -3,13 +3,15 @@ use mathlib.Core.Path.{_≡_, refl}
 use mathlib.Core.Bool.{Bool, true, false, cond}
 use mathlib.Core.List.{List, [], _∷_, reverse-append}
 use Prim.Native.Nat.{ℕ, suc, _+_, _-_, _≤_, _<_, min}
+use native.Mathlib.Nat.{zero-add}
 use native.Mathlib.Numerals.{add-one}
 use native.Mathlib.Omega.{arith}
 use borrow.Author.Tests.{leb-true, leb-false, ne-eqb}
 use lib.Dec.{leb}
 use lib.ListN.{length, getD, take, drop, length-reverse, length-drop, drop-of-length-le}
 use lib.Seq.{take-suc, take-all, take-length, drop-cons, drop-length, length-take-le}
-use Rattle.position.specs.Position.{isNewline, isStart, count, untilNewline, before, positionAfter, positionIn, lineStart, lineEnd, lineIn, behind}
+use Rattle.scan.specs.Lexer.{hasMark}
+use Rattle.position.specs.Position.{isNewline, isStart, count, untilNewline, before, positionAfter, positionIn, positionOf, lineStart, lineEnd, lineIn, markLength, sourceLine, behind}
 use Rattle.position.specs.declared.Position.{Position}
 
 -- An offset past the text is that of the text's end.
@@ -130,6 +132,13 @@ pub line-found : (text : List ℕ) (at inside start end : ℕ) → inside ≡ mi
 line-found text at inside start end e s t =
     let held = line-holds text inside (omega arith) in
     (rw (s, t, e) (unfold lineIn in line-clip text at), omega (arith, held), omega (arith, held))
+
+-- Without a mark, lines and columns are those of the text as it stands.
+pub unmarked-place : (text : List ℕ) (offset : ℕ) → hasMark text ≡ false → (positionOf text offset ≡ positionIn text offset) × (sourceLine text offset ≡ lineIn text offset)
+unfolding positionOf lineIn sourceLine markLength
+unmarked-place text offset e =
+    let z : offset - 0 ≡ offset = omega arith in
+    (rw (e, z), rw (e, z, zero-add (lineStart text offset), zero-add (lineEnd text offset)))
 
 -- What is lent from an offset on.
 pub lent-from : (text : List ℕ) (at : ℕ) → take (length text - at) (drop at text) ≡ drop at text

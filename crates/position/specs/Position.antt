@@ -4,7 +4,7 @@ use mathlib.Core.Bool.{Bool, cond, _||_}
 use mathlib.Core.List.{List, [], _∷_, reverse}
 use lib.Dec.{eqb, ltb}
 use lib.ListN.{length, take, drop}
-use Rattle.scan.specs.Lexer.{isMarked}
+use Rattle.scan.specs.Lexer.{hasMark}
 use Rattle.position.specs.declared.Position.{Position}
 use Rattle.position.specs.declared.Extent.{Extent}
 
@@ -49,7 +49,7 @@ lineIn text offset = record { start = lineStart text offset; end = lineEnd text 
 
 -- A byte order mark in front is no part of the first line (01, W4): the line and its columns begin behind it, and offsets in it are the line's first.
 unfoldable pub markLength : List ℕ → ℕ
-markLength text = cond (isMarked text) 3 0
+markLength text = cond (hasMark text) 3 0
 
 abbrev pub behindMark : List ℕ → List ℕ
 behindMark text = drop (markLength text) text

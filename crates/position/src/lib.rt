@@ -113,7 +113,7 @@ fn line_in(text: &[u8], offset: usize) -> Extent
 fn mark_length(text: &[u8]) -> usize
     ensures { λ r. ⌜ (r ≡ markLength (now (text .entry))) × (r ≤ length (now (text .entry))) ⌝ }
 {
-    if scan::is_marked(text) { 3 } else { 0 }
+    if scan::has_mark(text) { 3 } else { 0 }
 }
 
 // An offset counted from behind so many bytes; one before that is 0.

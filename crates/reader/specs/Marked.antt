@@ -1,7 +1,7 @@
 -- "Chart and parser both drop it, so a marked script may be free of reports." (01, W4): a marked text is derived where the text behind the mark is, with
 -- the same tree.
 use mathlib.Core.Path.{_≡_, refl, sym, _∙_, ap, ap₂, subst}
-use mathlib.Core.Bool.{Bool, true, false, cond, _&&_}
+use mathlib.Core.Bool.{Bool, true, false, true≢false, cond, _&&_}
 use mathlib.Core.Option as Option
 use mathlib.Core.List.{List, [], _∷_, _++_, map}
 use mathlib.Core.Logic.{_↔_}
@@ -9,22 +9,26 @@ use Prim.Native.Nat.{ℕ, zero, suc, pred, _+_, _%_, _^_, _<_, _≤_}
 use native.Mathlib.Nat.{mod-lt}
 use native.Mathlib.Omega.{arith}
 use lib.Dec.{leb, leb·suc-suc, lit<}
-use lib.ListN.{length, getD, take}
+use lib.ListN.{length, take}
 use lib.Seq.{slice}
 use Rattle.words.specs.Token
+use Rattle.words.specs.Token.{lexError}
+use Rattle.words.specs.declared.token.LexError.{LexError}
+use Rattle.words.specs.declared.token.LexError.the-variants.{Is, Nothing}
 use lib.Pow as Pow
 use lib.Pow.{pow-pos}
 use Rattle.words.specs.Words.{pack, high, tokenKind, tokenEnd}
 use Rattle.words.specs.Laws.{high-pack, low-pack}
 use Rattle.scan.specs.declared.Token.{Token as LexToken}
-use Rattle.scan.specs.Lexer.{longestText, from, tokenAt, tokensFrom, mark, isMarked, tokensOf, word}
+use Rattle.scan.specs.Lexer.{longestText, Lexeme as LexLexeme, from, tokenAt, tokensFrom, mark, hasMark, word}
 use Rattle.scan.specs.Laws.{ended}
 use Rattle.scan.specs.Fits.{token-fits}
-use Rattle.scan.specs.Marked.{unmarked, marked, moved}
+use Rattle.scan.specs.Marked.{unmarked, marked, moved, elsewhere}
 use Rattle.literals.specs.Spelling.{span, wordAt, tokenStart, covered, spelling}
-use Rattle.chart.specs.Row.{RowToken, token, isBlank, rowFrom, row}
+use Rattle.chart.specs.Row.{RowToken, token, Lexeme, isBlank, rowFrom, row}
 use Rattle.chart.specs.Tree.{Trees}
 use Rattle.chart.specs.Chart.{Derives, file}
+use Rattle.chart.specs.Errors.{NoErrors, no-error-more, derived-clean}
 use Rattle.chart.specs.Renumbered.{renumbered, renumber}
 use Rattle.tree.specs.Stored.{stored}
 use Rattle.reader.specs.Demand.{rowOf, Derived, Agreed}
@@ -115,11 +119,11 @@ module _ (t : List ℕ) (short : length t ≤ longestText) where
   )
 
   -- Behind the mark stands no other: derived exactly where the text behind it is.
-  pub mark-dropped : isMarked t ≡ false → (u : Trees) → Derived (mark ++ t) u ↔ Derived t u
+  pub mark-dropped : hasMark t ≡ false → (u : Trees) → Derived (mark ++ t) u ↔ Derived t u
   mark-dropped e u = rw (unmarked t e) (marked-derived u)
 
   -- Both read: the one is free of reports where the other is, and then the words of both hold one tree, node for node.
-  module _ (e : isMarked t ≡ false) {tokens nodes values tokens′ nodes′ values′ : List ℕ} {tc nc vc rc tc′ nc′ vc′ rc′ : ℕ}
+  module _ (e : hasMark t ≡ false) {tokens nodes values tokens′ nodes′ values′ : List ℕ} {tc nc vc rc tc′ nc′ vc′ rc′ : ℕ}
       (a : Agreed (mark ++ t) tokens nodes values tc nc vc rc) (b : Agreed t tokens′ nodes′ values′ tc′ nc′ vc′ rc′) where
     pub marked-reports : (rc ≡ 0) ↔ (rc′ ≡ 0)
     marked-reports = (
@@ -134,3 +138,24 @@ module _ (t : List ℕ) (short : length t ≤ longestText) where
     marked-tree u d =
         let d⁺ = mark-dropped e u .1 d in
         (a .tree u d⁺, b .tree u d, sym (a .all u d⁺) ∙ b .all u d)
+
+isNothing : LexError → Bool
+isNothing e = elim e [ Is error ↦ false | Nothing ↦ true ]
+
+first-clean : {k : ℕ} {v : Lexeme} {xs : List RowToken} → NoErrors (token k v ∷ xs) → lexError k ≡ Nothing
+first-clean (no-error-more e n) = e
+
+invalid-first : (text tokens ws : List ℕ) (w : ℕ) → tokenKind w ≡ Token.InvalidCharError → NoErrors (rowFrom text tokens 0 (w ∷ ws)) → ⊥
+unfolding rowFrom isBlank lexError isNothing
+invalid-first text tokens ws w e n =
+    let v : Lexeme = record { number = 0; spelling = spelling text tokens 0 } in
+    let xs = rowFrom text tokens 1 ws in
+    true≢false (sym (ap isNothing (first-clean (subst (λ (k : ℕ). NoErrors (cond (isBlank k) xs (token k v ∷ xs))) e n))))
+
+-- A second mark is an invalid character, and no rule holds one: such a text is derived nowhere.
+pub marked-twice : (t : List ℕ) → length (mark ++ t) ≤ longestText → (u : Trees) → Derived (mark ++ (mark ++ t)) u → ⊥
+unfolding tokensFrom
+marked-twice t short u d =
+    invalid-first (mark ++ t) _ _ _
+    (ap (λ (l : LexLexeme). tokenKind (word (from 0 l))) (elsewhere t) ∙ high-pack 25 Token.InvalidCharError 3 (lit< tt))
+    (derived-clean (marked-derived (mark ++ t) short u .0 d))

@@ -21,7 +21,7 @@ use Rattle.utf8.specs.Utf8.{checked}
 use Rattle.utf8.specs.declared.Checked.{Checked}
 use Rattle.utf8.specs.declared.Checked.the-variants.{Good, Bad}
 use Rattle.scan.specs.declared.Token.{Token as LexToken}
-use Rattle.scan.specs.Lexer.{longestText, from, tokenAt, tokensFrom, isMarked, tokensOf, word}
+use Rattle.scan.specs.Lexer.{longestText, from, tokenAt, tokensFrom, hasMark, tokensOf, word}
 use Rattle.scan.specs.Laws.{ended}
 use Rattle.scan.specs.Marked.{unmarked, behind-mark, mark-within}
 use Rattle.lexer.specs.Lex.{notUtf8, lexed, lexedWords}
@@ -123,9 +123,9 @@ module _ (text : List ℕ) (short : length text ≤ 65536) where
       go false e ih = laid-last at g (ltb-false at (length text) e)
 
   all-laid : Laid (length text) 0 (map word (tokensOf text))
-  all-laid = go (isMarked text) refl
+  all-laid = go (hasMark text) refl
     where
-      go : (b : Bool) → isMarked text ≡ b → Laid (length text) 0 (map word (tokensOf text))
+      go : (b : Bool) → hasMark text ≡ b → Laid (length text) 0 (map word (tokensOf text))
       go true e =
           let end : tokenEnd (word (ended Token.Whitespace 3)) ≡ 3 = low-pack 25 Token.Whitespace 3 (lit< tt) in
           let kind : tokenKind (word (ended Token.Whitespace 3)) ≡ Token.Whitespace = high-pack 25 Token.Whitespace 3 (lit< tt) in

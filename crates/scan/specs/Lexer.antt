@@ -244,14 +244,14 @@ tokensFrom at (suc skip) (b ∷ s) = tokensFrom (suc at) skip s
 abbrev pub mark : List ℕ
 mark = 0xEF ∷ 0xBB ∷ 0xBF ∷ []
 
-unfoldable pub isMarked : List ℕ → Bool
-isMarked text = spelled mark text
+unfoldable pub hasMark : List ℕ → Bool
+hasMark text = spelled mark text
 
 -- The tokens of a text, Eof last: `Lexed::lex`. "At offset 0 the mark alone becomes one Whitespace token of three bytes; elsewhere it is read as
 -- before." (01, W4)
 unfoldable pub tokensOf : List ℕ → List Token
 tokensOf text =
-    cond (isMarked text) (record { kind = TokenKind.Whitespace; end = 3 } ∷ tokensFrom 3 0 (drop 3 text))
+    cond (hasMark text) (record { kind = TokenKind.Whitespace; end = 3 } ∷ tokensFrom 3 0 (drop 3 text))
     (tokensFrom 0 0 text)
 
 abbrev pub word : Token → ℕ

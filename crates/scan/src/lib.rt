@@ -6,7 +6,7 @@ ghost use lib.Dec.{eqb};
 ghost use lib.ListN.{length, drop, getD};
 ghost use Rattle.words.specs.Token;
 ghost use Rattle.scan.specs.Bytes.{within, digit, identStart, identPart, blank, isDigit};
-ghost use Rattle.scan.specs.Lexer.{isMarked, run, from, lineComment, blockComment, number, string};
+ghost use Rattle.scan.specs.Lexer.{hasMark, run, from, lineComment, blockComment, number, string};
 ghost use Rattle.scan.specs.Laws.{ended};
 ghost use Rattle.scan.specs.Comments.{mostOpen, mostBehind, behind, stepped, Counted};
 use words::token;
@@ -31,8 +31,8 @@ pub fn byte_at(text: &[u8], at: usize) -> u8
 }
 
 // Whether a byte order mark stands in front: EF BB BF.
-pub fn is_marked(text: &[u8]) -> bool
-    ensures { λ r. ⌜ r ≡ isMarked (now (text .entry)) ⌝ }
+pub fn has_mark(text: &[u8]) -> bool
+    ensures { λ r. ⌜ r ≡ hasMark (now (text .entry)) ⌝ }
 {
     if byte_at(text, 0) != 0xEF {
         return false;

@@ -139,7 +139,9 @@ fn generated(chart: &Chart, options: &ChartOptions, tally: &mut Tally) {
     let mut rng = generate::Rng::new(options.seed);
     let scripts = (0..options.texts / 2).map(|_| script(&mut rng));
     let others = ParseTexts::new(options.seed).take(options.texts / 2);
-    for text in scripts.chain(others) {
+    let marked = ParseTexts::new(options.seed).take(options.texts / 8);
+    let marked = marked.map(|text| format!("{}{text}", mark::MARK));
+    for text in scripts.chain(others).chain(marked) {
         let answer = read(&text);
         match row_of(&text).filter(|_| answer.number != 3) {
             Some(row) => tally.add(&text, chart.derives(&row), &answer),

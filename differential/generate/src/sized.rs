@@ -29,7 +29,8 @@ const FILLINGS: [&str; 17] = [
 const OPENED: [usize; 5] = [LIMIT / 2, LIMIT / 2 - 1, LIMIT / 4 + 1, LIMIT / 4, LIMIT / 4 - 1];
 
 /// Each filling over and over, also where that ends inside a character, and nested comments; then
-/// the same with a byte that starts no character in front, and with one at the end.
+/// the same with a byte that starts no character in front, with one at the end, and with a byte order
+/// mark for the first three bytes.
 pub fn texts_around_the_limit() -> impl Iterator<Item = Vec<u8>> {
     let filled = LENGTHS.iter().flat_map(|length| FILLINGS.map(|filling| filled(filling, *length)));
     filled.chain(OPENED.map(nested_comments)).flat_map(|text| {
@@ -37,7 +38,8 @@ pub fn texts_around_the_limit() -> impl Iterator<Item = Vec<u8>> {
         bad_first[0] = 0xff;
         let mut bad_last = text.clone();
         bad_last[text.len() - 1] = 0xff;
-        [text, bad_first, bad_last]
+        let marked = behind_mark(text[3..].to_vec());
+        [text, bad_first, bad_last, marked]
     })
 }
 

@@ -52,6 +52,10 @@ fn the_limit_is_met_from_both_sides() {
     let is_bad = |text: &Vec<u8>| str::from_utf8(text).is_err();
     assert!(texts_around_the_limit().any(|text| text.len() > 65_536 && is_bad(&text)));
     assert!(texts_around_the_limit().any(|text| text.len() == 65_536 && !is_bad(&text)));
+    let is_marked = |text: &Vec<u8>| text.starts_with("\u{feff}".as_bytes()) && !is_bad(text);
+    for length in [65_536, 65_537] {
+        assert!(texts_around_the_limit().any(|text| text.len() == length && is_marked(&text)));
+    }
 }
 
 #[test]

@@ -7,8 +7,8 @@ use Rattle.lexer.specs.Walk.{filled-behind, filled-all}
 use Rattle.lexer.proofs.fill.Statement.{statement}
 use Rattle.lexer.proofs.fill.Tie as tie
 
-is-marked-requires : tie.Need-is-marked-requires
-is-marked-requires c κs = search needs
+has-mark-requires : tie.Need-has-mark-requires
+has-mark-requires c κs = search needs
 
 token-word-requires : tie.Need-token-word-requires
 token-word-requires c κs = search needs
@@ -19,7 +19,7 @@ put-requires c κs = search needs
 fill-from-requires : tie.Need-fill-from-requires
 fill-from-requires c κs =
     let at-if = c .before .before .before .before .before .before in
-    (search needs, mark-within _ (sym (at-if .before .is-marked .ensures) ∙ at-if .if1 .taken), omega arith)
+    (search needs, mark-within _ (sym (at-if .before .has-mark .ensures) ∙ at-if .if1 .taken), omega arith)
 
 same-length : tie.Need-same-length
 same-length c = search needs
@@ -30,7 +30,7 @@ returns c =
     let at-put = at-fill-from .before .before .before .before in
     let at-token-word = at-put .before in
     let at-if = at-token-word .before .before in
-    filled-behind _ _ _ _ _ _ (sym (at-if .before .is-marked .ensures) ∙ at-if .if1 .taken) (at-token-word .token-word .ensures) (at-put .put .ensures)
+    filled-behind _ _ _ _ _ _ (sym (at-if .before .has-mark .ensures) ∙ at-if .if1 .taken) (at-token-word .token-word .ensures) (at-put .put .ensures)
     (at-fill-from .fill-from .ensures)
 
 fill-from-requires-2 : tie.Need-fill-from-requires-2
@@ -43,13 +43,13 @@ returns-2 : tie.Need-returns-2
 returns-2 c =
     let at-fill-from = c .before .before in
     let at-if = at-fill-from .before .before in
-    filled-all _ _ _ _ (sym (at-if .before .is-marked .ensures) ∙ at-if .if1 .left) (at-fill-from .fill-from2 .ensures)
+    filled-all _ _ _ _ (sym (at-if .before .has-mark .ensures) ∙ at-if .if1 .left) (at-fill-from .fill-from2 .ensures)
 
 pub fill-spec : {M : Type 1} → statement M
 fill-spec =
     tie.close
     (tie.spec
-    is-marked-requires
+    has-mark-requires
     token-word-requires
     put-requires
     fill-from-requires
