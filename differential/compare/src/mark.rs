@@ -13,6 +13,15 @@ const END_BITS: u32 = 25;
 const NAMES: [u32; 3] = [36, 37, 43];
 const PAYLOAD_BITS: u32 = 26;
 
+/// For the record of tokens, besides those that have others: a mark before blanks, before a second
+/// one, and not in front.
+pub const LEXED: &[&str] = &["\u{feff} \n;", "\u{feff}\u{feff}", " \u{feff}"];
+
+/// For the record of trees: nothing behind the mark, a script free of reports, and one with reports,
+/// one of them of a second mark.
+pub const PARSED: &[&str] =
+    &["\u{feff}", "\u{feff}const a = b - (c - @d(\"e\", 1));\r\n", "\u{feff}\u{feff}init { a b }"];
+
 /// The token words of a text.
 pub fn lex(text: &str) -> Vec<u32> {
     match text.strip_prefix(MARK) {

@@ -8,7 +8,7 @@
 
 use crate::{
     answer::{MOST_BYTES, Reference},
-    fuzzed,
+    fuzzed, mark,
     utf8::SMALLEST,
 };
 use generate::{TOKENS, Texts};
@@ -52,7 +52,7 @@ pub fn save(file: &Path, records: usize, bytes: &[u8]) -> ExitCode {
 }
 
 /// The corners, each spelling of a token alone, and generated texts that are not too long,
-/// each text once; then those that fuzzing found.
+/// each text once; then those that fuzzing found, and those with a byte order mark.
 fn sample() -> Vec<String> {
     let generated = Texts::new(SEED)
         .filter(|text| text.len() <= LONGEST_TEXT)
@@ -60,7 +60,8 @@ fn sample() -> Vec<String> {
     let chosen = CORNERS.iter().chain(TOKENS).map(|text| text.to_string());
     let mut seen = HashSet::new();
     let texts = chosen.chain(generated).filter(|text| seen.insert(text.clone())).take(RECORDS);
-    texts.chain(fuzzed::LEXED.iter().map(|text| text.to_string())).collect()
+    let later = fuzzed::LEXED.iter().chain(mark::LEXED).map(|text| text.to_string());
+    texts.chain(later).collect()
 }
 
 /// The smallest texts that aren't UTF-8 in each way, alone and behind good text, and one that is
@@ -112,7 +113,7 @@ mod tests {
 
     #[test]
     fn the_sample_is_small() {
-        assert_eq!(sample().len(), RECORDS + fuzzed::LEXED.len());
+        assert_eq!(sample().len(), RECORDS + fuzzed::LEXED.len() + mark::LEXED.len());
         let texts: Vec<Vec<u8>> = sample().into_iter().map(Vec::from).chain(refused()).collect();
         assert!(encode(&texts).len() <= LONGEST_DATA);
     }

@@ -30,10 +30,11 @@ pub fn write(file: &Path) -> ExitCode {
     save(file, records.len(), &encode(&records))
 }
 
-/// The chosen and generated texts, then those that fuzzing found.
+/// The chosen and generated texts, then those that fuzzing found, and those with a byte order mark.
 fn sample() -> Vec<Record> {
     let mut records = chosen_and_generated();
-    records.extend(fuzzed::PARSED.iter().filter_map(|text| Record::of(text)));
+    let later = fuzzed::PARSED.iter().chain(mark::PARSED);
+    records.extend(later.filter_map(|text| Record::of(text)));
     records
 }
 
@@ -200,9 +201,9 @@ mod tests {
     }
 
     #[test]
-    fn the_sample_ends_with_every_text_that_fuzzing_found() {
+    fn the_sample_ends_with_every_text_that_fuzzing_found_and_every_marked_one() {
         let texts: Vec<&str> = SAMPLE.iter().map(|record| record.text.as_str()).collect();
-        assert!(texts.ends_with(fuzzed::PARSED));
+        assert!(texts.ends_with(&[fuzzed::PARSED, mark::PARSED].concat()));
     }
 
     #[test]
