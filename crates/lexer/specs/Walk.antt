@@ -1,8 +1,8 @@
 -- Laws of the tokens of a text, read from an offset on, and of the words that lexing leaves.
 use mathlib.Core.Path.{_≡_, refl, sym, _∙_, ap}
-use mathlib.Core.Bool.{Bool, true, false}
+use mathlib.Core.Bool.{Bool, true, false, cond}
 use mathlib.Core.List.{List, [], _∷_, _++_, map, append-nil, append-assoc}
-use Prim.Native.Nat.{ℕ, zero, suc, pred, _+_, _-_, _≤_, _<_}
+use Prim.Native.Nat.{ℕ, zero, suc, pred, _+_, _-_, _*_, _≤_, _<_}
 use native.Mathlib.Nat.{add-zero}
 use native.Mathlib.Numerals.{add-one}
 use native.Mathlib.Omega.{arith}
@@ -120,13 +120,44 @@ tokens-count text = go (hasMark text) refl
     go true e = rw (behind-mark text e) (omega (arith, tokens-few (drop 3 text) 3 0, length-drop 3 text, mark-within text e))
     go false e = rw (unmarked text e) (tokens-few text 0 0)
 
--- The whole: behind a mark, whose word `w` is put first, and without one.
-module _ (text lent : List ℕ) where
-  pub filled-behind : (w n : ℕ) (ws out : List ℕ) → hasMark text ≡ true → w ≡ word (ended TokenKind.Whitespace 3) → ws ≡ set lent 0 w
-      → (n ≡ 1 + length (rest text 3)) × (out ≡ sets ws 1 (map word (rest text 3)))
-      → (n ≡ length (tokensOf text)) × (out ≡ sets lent 0 (map word (tokensOf text)))
-  filled-behind w n ws out e ew es (en, eo) = rw (behind-mark text e) (omega (arith, en), eo ∙ (rw (es, ew)))
+-- A byte order mark in front as a token, if there is one; the others begin behind it.
+unfoldable pub marks : List ℕ → List Token
+marks text = cond (hasMark text) (ended TokenKind.Whitespace 3 ∷ []) []
 
-  pub filled-all : (n : ℕ) (out : List ℕ) → hasMark text ≡ false → (n ≡ 0 + length (rest text 0)) × (out ≡ sets lent 0 (map word (rest text 0)))
-      → (n ≡ length (tokensOf text)) × (out ≡ sets lent 0 (map word (tokensOf text)))
-  filled-all n out e (en, eo) = rw (unmarked text e) (omega (arith, en), eo)
+module _ (text lent : List ℕ) where
+  pub one-mark : hasMark text ≡ true → (w : ℕ) (ws : List ℕ) → w ≡ word (ended TokenKind.Whitespace 3) → ws ≡ set lent 0 w → (1 ≡ length (marks text)) × (ws ≡ sets lent 0 (map word (marks text)))
+  unfolding marks
+  one-mark e w ws ew es = rw e (refl, es ∙ rw ew)
+
+  pub no-marks : hasMark text ≡ false → (0 ≡ length (marks text)) × (lent ≡ sets lent 0 (map word (marks text)))
+  unfolding marks
+  no-marks e = rw e (refl, refl)
+
+pub mark-inside : (text : List ℕ) (first : ℕ) → first ≡ length (marks text) → 3 * first ≤ length text
+unfolding marks
+mark-inside text first h = go (hasMark text) refl
+  where
+    go : (t : Bool) → hasMark text ≡ t → 3 * first ≤ length text
+    go true e = let k : first ≡ 1 = rw e at h in omega (arith, mark-within text e)
+    go false e = let k : first ≡ 0 = rw e at h in omega arith
+
+-- The whole: the mark's word, where there is one, and those of the tokens behind it.
+pub filled : (text lent ws out : List ℕ) (first n : ℕ) → (first ≡ length (marks text)) × (ws ≡ sets lent 0 (map word (marks text)))
+    → (n ≡ first + length (rest text (3 * first))) × (out ≡ sets ws first (map word (rest text (3 * first))))
+    → (n ≡ length (tokensOf text)) × (out ≡ sets lent 0 (map word (tokensOf text)))
+unfolding marks
+filled text lent ws out first n (ef, ew) (en, eo) = go (hasMark text) refl
+  where
+    go : (t : Bool) → hasMark text ≡ t → (n ≡ length (tokensOf text)) × (out ≡ sets lent 0 (map word (tokensOf text)))
+    go true e =
+        let k : first ≡ 1 = rw e at ef in
+        let l : ws ≡ set lent 0 (word (ended TokenKind.Whitespace 3)) = rw e at ew in
+        let m : n ≡ 1 + length (rest text 3) = rw k at en in
+        let o : out ≡ sets ws 1 (map word (rest text 3)) = rw k at eo in
+        rw (behind-mark text e) (omega (arith, m), o ∙ rw l)
+    go false e =
+        let k : first ≡ 0 = rw e at ef in
+        let l : ws ≡ lent = rw e at ew in
+        let m : n ≡ 0 + length (rest text 0) = rw k at en in
+        let o : out ≡ sets ws 0 (map word (rest text 0)) = rw k at eo in
+        rw (unmarked text e) (omega (arith, m), o ∙ rw l)

@@ -5,7 +5,7 @@ ghost use Prim.Native.Nat.{_+_, _-_, _≤_, _<_};
 ghost use lib.ListN.{length, set, take, replicate};
 ghost use lib.Seq.{sets};
 ghost use Rattle.scan.specs.Lexer.{longestText, tokensOf, word};
-ghost use Rattle.lexer.specs.Walk.{rest};
+ghost use Rattle.lexer.specs.Walk.{rest, marks};
 ghost use Rattle.lexer.specs.Lex.{answer, lexed, lexedWords, notUtf8, startOf, spellingOf, spellingStart, Begins};
 pub use scan::LONGEST_TEXT;
 use utf8::Checked;
@@ -58,16 +58,24 @@ fn fill_from(text: &[u8], words: &mut [u32], start: usize, first: usize) -> usiz
     n + 1
 }
 
-// The tokens' words, and the number of tokens. A byte order mark in front is a token by itself.
+// Puts the word of a byte order mark in front, which is a token by itself; tells how many such tokens there are.
+fn put_mark(text: &[u8], words: &mut [u32]) -> usize
+    ensures { λ r. ⌜ (r ≡ length (marks (now (text .entry)))) × (now (words .exit) ≡ sets (now (words .entry)) 0 (map word (marks (now (text .entry))))) ⌝ }
+{
+    if scan::has_mark(text) {
+        put(words, 0, words::token_word(token::WHITESPACE, 3));
+        return 1;
+    }
+    0
+}
+
+// The tokens' words, and the number of tokens. There is one call of the loop: with two it is no part of `lex`, and each token costs more.
 fn fill(text: &[u8], words: &mut [u32]) -> usize
     requires { ⌜ length (now text) ≤ longestText ⌝ }
     ensures { λ r. ⌜ (r ≡ length (tokensOf (now (text .entry)))) × (now (words .exit) ≡ sets (now (words .entry)) 0 (map word (tokensOf (now (text .entry))))) ⌝ }
 {
-    if scan::has_mark(text) {
-        put(words, 0, words::token_word(token::WHITESPACE, 3));
-        return fill_from(text, words, 3, 1);
-    }
-    fill_from(text, words, 0, 0)
+    let first = put_mark(text, words);
+    fill_from(text, words, 3 * first, first)
 }
 
 // The number of the refusal of a text that isn't UTF-8, by the way in which it isn't.
