@@ -82,7 +82,7 @@ pub marked : (t : List ℕ) → tokensOf (mark ++ t) ≡ ended TokenKind.Whitesp
 unfolding tokensOf hasMark spelled
 marked t = ap (λ (ts : List Token). ended TokenKind.Whitespace 3 ∷ ts) (tokens-moved 3 t 0 0)
 
--- "elsewhere it is read as before" (01, W4): as an invalid character of three bytes.
+-- "elsewhere it is read as before" (01, W4): a token that begins with it is an invalid character of three bytes.
 pub elsewhere : (t : List ℕ) → tokenAt (mark ++ t) ≡ lexeme TokenKind.InvalidCharError 3
 unfolding tokenAt longest rules punctuation keywords others matched spelled classed run identStart identPart blank digit upper lower isDigit invalidChar has follow sequenceBy table leadBits joined codePoint characterAt
 elsewhere t = refl
