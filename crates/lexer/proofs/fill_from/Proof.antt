@@ -41,13 +41,16 @@ put-requires c κs = search needs
 
 add-n : tie.Need-add-n Inv-loop μ-loop
 add-n c =
-    let at-loop-test = c .before .before .before .before .before .before in
+    let at-token-word = c .before .before .before in
+    let at-next-token = at-token-word .before .before in
+    let at-loop-test = at-next-token .before in
     let at-loop = at-loop-test .before in
     omega (arith, at-loop .loop .inv .few, at-loop-test .loop-test .taken)
 
 loop-less : tie.Need-loop-less Inv-loop μ-loop
 loop-less c =
-    let at-next-token = c .before .before .before .before .before in
+    let at-token-word = c .before .before .before in
+    let at-next-token = at-token-word .before .before in
     let at-loop-test = at-next-token .before in
     let at-pre = at-loop-test .before .before .before .before in
     omega (
@@ -83,7 +86,8 @@ put-requires-2 c κs = search needs
 
 add-result : tie.Need-add-result Inv-loop μ-loop
 add-result c =
-    let at-loop = c .before .before .before .before .before .before in
+    let at-put2 = c .before .before in
+    let at-loop = at-put2 .before .before .before .before in
     omega (arith, at-loop .loop .inv .few, at-loop .loop .inv .within)
 
 same-length : tie.Need-same-length Inv-loop μ-loop
