@@ -1,7 +1,7 @@
 -- "Chart and parser both drop it, so a marked script may be free of reports." (01, W4): a marked text is derived where the text behind the mark is, with
 -- the same tree.
 use mathlib.Core.Path.{_≡_, refl, sym, _∙_, ap, ap₂, subst}
-use mathlib.Core.Bool.{Bool, true, false, true≢false, cond, _&&_}
+use mathlib.Core.Bool.{Bool, true, false, cond, _&&_}
 use mathlib.Core.Option as Option
 use mathlib.Core.List.{List, [], _∷_, _++_, map}
 use mathlib.Core.Logic.{_↔_}
@@ -11,9 +11,9 @@ use native.Mathlib.Omega.{arith}
 use lib.Dec.{leb, leb·suc-suc, lit<}
 use lib.ListN.{length, take}
 use lib.Seq.{slice}
+use Rattle.words.specs.ErrorToken
 use Rattle.words.specs.Token
 use Rattle.words.specs.Token.{lexError}
-use Rattle.words.specs.declared.token.LexError.{LexError}
 use Rattle.words.specs.declared.token.LexError.the-variants.{Is, Nothing}
 use lib.Pow as Pow
 use lib.Pow.{pow-pos}
@@ -98,6 +98,11 @@ mark-blank : (text tokens ws : List ℕ) → rowFrom text tokens 0 (word (ended 
 unfolding rowFrom isBlank
 mark-blank text tokens ws = rw (high-pack 25 Token.Whitespace 3 (lit< tt))
 
+back : (xs : List RowToken) → renumbered pred (renumbered suc xs) ≡ xs
+unfolding renumbered
+back [] = refl
+back (token k v ∷ xs) = ap (λ (ys : List RowToken). token k v ∷ ys) (back xs)
+
 module _ (t : List ℕ) (short : length t ≤ longestText) where
   -- The row of a marked text: the mark is no part of it, and token numbers are one higher.
   pub marked-row : rowOf (mark ++ t) ≡ renumbered suc (plainRow t)
@@ -105,11 +110,6 @@ module _ (t : List ℕ) (short : length t ≤ longestText) where
       let l = later-tokens t 0 0 (omega arith) in
       ap (λ (ts : List LexToken). row (mark ++ t) (map word ts)) (marked t)
       ∙ (mark-blank (mark ++ t) _ _ ∙ row-later t _ _ _ (low-pack 25 Token.Whitespace 3 (lit< tt)) l _ _ l 0 (omega arith))
-
-  back : (xs : List RowToken) → renumbered pred (renumbered suc xs) ≡ xs
-  unfolding renumbered
-  back [] = refl
-  back (token k v ∷ xs) = ap (λ (ys : List RowToken). token k v ∷ ys) (back xs)
 
   pub marked-derived : (u : Trees) → Derived (mark ++ t) u ↔ Derives file (plainRow t) [] u
   unfolding renumbered
@@ -139,18 +139,16 @@ module _ (t : List ℕ) (short : length t ≤ longestText) where
         let d⁺ = mark-dropped e u .1 d in
         (a .tree u d⁺, b .tree u d, sym (a .all u d⁺) ∙ b .all u d)
 
-isNothing : LexError → Bool
-isNothing e = elim e [ Is error ↦ false | Nothing ↦ true ]
-
 first-clean : {k : ℕ} {v : Lexeme} {xs : List RowToken} → NoErrors (token k v ∷ xs) → lexError k ≡ Nothing
 first-clean (no-error-more e n) = e
 
 invalid-first : (text tokens ws : List ℕ) (w : ℕ) → tokenKind w ≡ Token.InvalidCharError → NoErrors (rowFrom text tokens 0 (w ∷ ws)) → ⊥
-unfolding rowFrom isBlank lexError isNothing
+unfolding rowFrom isBlank lexError
 invalid-first text tokens ws w e n =
     let v : Lexeme = record { number = 0; spelling = spelling text tokens 0 } in
     let xs = rowFrom text tokens 1 ws in
-    true≢false (sym (ap isNothing (first-clean (subst (λ (k : ℕ). NoErrors (cond (isBlank k) xs (token k v ∷ xs))) e n))))
+    let clean : Is ErrorToken.InvalidChar ≡ Nothing = first-clean (subst (λ (k : ℕ). NoErrors (cond (isBlank k) xs (token k v ∷ xs))) e n) in
+    absurd (let z : _≡_ {A = ℕ} 0 1 = cc in omega arith)
 
 -- A second mark is an invalid character, and no rule holds one: such a text is derived nowhere.
 pub marked-twice : (t : List ℕ) → length (mark ++ t) ≤ longestText → (u : Trees) → Derived (mark ++ (mark ++ t)) u → ⊥
