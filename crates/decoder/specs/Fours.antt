@@ -9,7 +9,7 @@ use lib.Seq.{length-take-le, take-at, drop-at}
 use Rattle.literals.specs.Strings.{fours}
 use Rattle.values.specs.declared.Count.{Count}
 use Rattle.values.specs.declared.Count.the-variants.{Words, DontFit}
-use Rattle.values.specs.Kept.{part-whole, part-rest}
+use Rattle.words.specs.Parts.{part-whole, part-rest}
 
 abbrev pub Bytes : List ℕ → Type 0
 Bytes [] = Unit {0}

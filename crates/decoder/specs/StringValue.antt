@@ -14,7 +14,8 @@ use Rattle.reading.specs.declared.Reading.{Reading}
 use Rattle.reading.specs.Does.{Does, refusedAt}
 use Rattle.values.specs.declared.Count.{Count}
 use Rattle.values.specs.declared.Count.the-variants.{Words, DontFit}
-use Rattle.values.specs.Kept.{Put, Kept, pastWords, part-whole, part-rest, kept-fits, value-full, value-fits}
+use Rattle.words.specs.Parts.{part-whole, part-rest}
+use Rattle.values.specs.Kept.{Put, Kept, pastWords, kept-fits, value-full, value-fits}
 use Rattle.decoder.specs.Fours.{Held, packed, fours-length}
 
 -- Whatever bytes are held behind the place of the next value's first word, it does what `value` does with them.

@@ -140,10 +140,6 @@ unmarked-place text offset e =
     let z : offset - 0 ≡ offset = omega arith in
     (rw (e, z), rw (e, z, zero-add (lineStart text offset), zero-add (lineEnd text offset)))
 
--- What is lent from an offset on.
-pub lent-from : (text : List ℕ) (at : ℕ) → take (length text - at) (drop at text) ≡ drop at text
-lent-from text at = take-all (length text - at) (drop at text) (omega (arith, length-drop at text))
-
 -- One byte is passed, and with it a newline, if it is one.
 pub behind-next : (text : List ℕ) (at n : ℕ) → at < length text → 0 < n → behind (drop at text) n ≡ 1 + behind (drop (at + 1) text) (n - cond (isNewline (getD text at 0)) 1 0)
 unfolding behind

@@ -55,6 +55,10 @@ not-true′ : (t : Bool) → not t ≡ true → t ≡ false
 not-true′ true e = absurd (false≢true e)
 not-true′ false e = refl
 
+pub and-true : (p : Bool) → (p && true) ≡ p
+and-true true = refl
+and-true false = refl
+
 pub and-both : (p q : Bool) → (p && q) ≡ true → (p ≡ true) × (q ≡ true)
 and-both true q e = (refl, e)
 and-both false q e = absurd (false≢true e)

@@ -12,6 +12,7 @@ use Rattle.scan.specs.declared.Token.{Token}
 use Rattle.utf8.specs.Utf8.{has, follow, sequenceBy, table, leadBits, joined, codePoint, characterAt}
 use Rattle.scan.specs.Bytes.{digit, upper, lower, identStart, identPart, blank, isDigit}
 use Rattle.scan.specs.Lexer.{lexeme, from, longest, rules, punctuation, keywords, others, matched, classed, run, invalidChar, spelled, tokenAt, tokensFrom, mark, hasMark, tokensOf}
+use Rattle.scan.specs.Longest.{and-true}
 use Rattle.scan.specs.Fits.{spelled-within}
 use Rattle.scan.specs.Laws.{ended}
 
@@ -31,10 +32,6 @@ eqb-swap m n = go (eqb m n) refl
     go : (t : Bool) → eqb m n ≡ t → t ≡ eqb n m
     go true e = sym (eq-eqb n m (sym (eqb-true m n e)))
     go false e = sym (ne-eqb n m (λ h. eqb-false m n e (sym h)))
-
-and-true : (p : Bool) → (p && true) ≡ p
-and-true true = refl
-and-true false = refl
 
 -- The mark by its bytes: past the text there is 0, which none of them is.
 pub mark-bytes : (text : List ℕ) → hasMark text ≡ (eqb 0xEF (getD text 0 0) && (eqb 0xBB (getD text 1 0) && eqb 0xBF (getD text 2 0)))

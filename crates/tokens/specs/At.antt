@@ -18,17 +18,13 @@ use Rattle.scan.specs.declared.Token.{Token}
 use Rattle.scan.specs.Bytes.{ascii, Class, digit, upper, lower, identStart, identPart, blank, isDigit}
 use Rattle.scan.specs.Comments.{behind, behind-all}
 use Rattle.scan.specs.Lexer.{longestText, Lexeme, lexeme, more, from, run, spelled, classed, tokenAt, lineComment, blockComment, number, string, Match, longest, noMatch, finish, rule, punctuation, invalidChar}
-use Rattle.scan.specs.Longest.{keywordOf, run-length}
+use Rattle.scan.specs.Longest.{keywordOf, run-length, and-true}
 use Rattle.tokens.specs.First
 use Rattle.tokens.specs.First.{hexPrefix, binPrefix, hex-token, word-token, number-token, blank-token, quote-token, at-builtin, at-error, slash-line, slash-block, slash-alone, other-token}
 use Rattle.scan.specs.Fits.{spelled-within, longest-within}
 use Rattle.tokens.specs.declared.Spelled.the-variants.{Is as Is′, Nothing as Nothing′}
 use Rattle.tokens.specs.Cases.{matchOf}
 use Rattle.scan.specs.Laws.{ended, rest-cons, from-more, lt-or-le}
-
-and-true : (t : Bool) → t ≡ (t && true)
-and-true true = refl
-and-true false = refl
 
 -- A byte that begins no word, number, run of blanks, string, comment or builtin's name.
 pub record Other (b : ℕ) : Type 0 where
@@ -98,7 +94,7 @@ module _ (text : List ℕ) (at letter radix : ℕ) (l : 0 < letter) where
     prefix-other f = rw (prefix-is, e, ne-eqb letter (getD text (at + 1) 0) (λ g. f (en ∙ sym g)))
 
     pub prefix-digit : (m : ℕ) (r : Bool) → n ≡ letter → m ≡ getD text (at + 2) 0 → r ≡ isDigit radix m → r ≡ classed prefix (drop at text)
-    prefix-digit m r f em er = rw (prefix-is, e, eq-eqb letter (getD text (at + 1) 0) (sym f ∙ en), ← em, ← er) (and-true r)
+    prefix-digit m r f em er = rw (prefix-is, e, eq-eqb letter (getD text (at + 1) 0) (sym f ∙ en), ← em, ← er) (sym (and-true r))
 
 module _ (text : List ℕ) (at : ℕ) where
   abbrev pub here : Token

@@ -1,13 +1,14 @@
 -- Values stored: the words of one from an offset on, if there is room, and what `value` then does.
 use mathlib.Core.Path.{_≡_, sym, _∙_}
-use mathlib.Core.List.{List, [], _∷_, _++_, append-assoc, append-nil}
+use mathlib.Core.List.{List, _∷_, _++_, append-assoc, append-nil}
 use Prim.Native.Nat.{ℕ, _+_, _-_, _%_, _≤_, _<_}
 use native.Mathlib.Omega.{arith}
 use native.Mathlib.Nat.{mod-mod}
 use native.Mathlib.Numerals.{add-one}
 use borrow.Author.Tests.{le-leb, lt-leb}
-use lib.ListN.{length, getD, take, drop, set, length-drop, drop-of-length-le}
-use lib.Seq.{sets, sets-eq, take-all, take-suc, append-snoc, set-at, length-take-le, drop-drop}
+use lib.ListN.{length, getD, take, drop, set, length-drop}
+use lib.Seq.{sets, sets-eq, take-suc, append-snoc, set-at, length-take-le, drop-drop}
+use Rattle.words.specs.Parts.{part-whole, part-rest}
 use Rattle.words.specs.Refusal
 use Rattle.words.specs.Words.{pack, valueHead}
 use Rattle.definition.specs.declared.State.{State}
@@ -34,13 +35,6 @@ Kept ws vs at DontFit vs′ = length vs < at + length ws
 pub head-cut : (tag n : ℕ) → valueHead tag (n % 1073741824) ≡ valueHead tag n
 unfolding pack
 head-cut tag n = rw (mod-mod n 1073741824)
-
--- The part of a slice from an offset on, as it is lent, and what stands behind it.
-pub part-whole : (a : ℕ) (vs : List ℕ) → take (length vs - a) (drop a vs) ≡ drop a vs
-part-whole a vs = take-all (length vs - a) (drop a vs) (omega (arith, length-drop a vs))
-
-pub part-rest : (a : ℕ) (vs : List ℕ) → drop (length vs - a) (drop a vs) ≡ []
-part-rest a vs = drop-of-length-le (drop a vs) {i = length vs - a} (omega (arith, length-drop a vs))
 
 -- A first word, and the words that were put behind it.
 module _ (head : ℕ) (ws vs : List ℕ) (at : ℕ) where

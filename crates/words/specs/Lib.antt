@@ -5,6 +5,7 @@ pub mod Flag
 pub mod Laws
 pub mod Node
 pub mod Order
+pub mod Parts
 pub mod Refusal
 pub mod Report
 pub mod Token

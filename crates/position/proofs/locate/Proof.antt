@@ -1,7 +1,7 @@
 -- `locate` meets its contract: it looks at what stands behind a mark.
 use borrow.Author.Needs.{needs}
+use Rattle.words.specs.Parts.{part-whole}
 use Rattle.position.specs.Position.{positionOf}
-use Rattle.position.specs.Laws.{lent-from}
 use Rattle.position.proofs.locate.Statement.{statement}
 use Rattle.position.proofs.locate.Tie as tie
 
@@ -28,7 +28,7 @@ unfolding positionOf
 returns c =
     let at-offset-behind = c .before in
     let at-mark-length = at-offset-behind .before .before in
-    let found = rw (lent-from (at-mark-length .before .before .args .text .now) (at-mark-length .mark-length .result)) at (c .locate-in .ensures) in
+    let found = rw (part-whole (at-mark-length .mark-length .result) (at-mark-length .before .before .args .text .now)) at (c .locate-in .ensures) in
     rw (← at-mark-length .mark-length .ensures .0, ← at-offset-behind .offset-behind .ensures) found
 
 pub locate-spec : {M : Type 1} → statement M

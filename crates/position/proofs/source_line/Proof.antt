@@ -1,7 +1,7 @@
 -- `source_line` meets its contract: it looks at what stands behind a mark.
 use borrow.Author.Needs.{needs}
+use Rattle.words.specs.Parts.{part-whole}
 use Rattle.position.specs.Position.{sourceLine}
-use Rattle.position.specs.Laws.{lent-from}
 use Rattle.position.proofs.source_line.Statement.{statement}
 use Rattle.position.proofs.source_line.Tie as tie
 
@@ -35,7 +35,7 @@ returns c =
     let at-line-in = c .before .before in
     let at-offset-behind = at-line-in .before in
     let at-mark-length = at-offset-behind .before .before in
-    let found = rw (lent-from (at-mark-length .before .before .args .text .now) (at-mark-length .mark-length .result)) at (at-line-in .line-in .ensures .0) in
+    let found = rw (part-whole (at-mark-length .mark-length .result) (at-mark-length .before .before .args .text .now)) at (at-line-in .line-in .ensures .0) in
     rw (found, at-offset-behind .offset-behind .ensures, at-mark-length .mark-length .ensures .0)
 
 pub source-line-spec : {M : Type 1} → statement M
