@@ -242,7 +242,7 @@ enum plank_report_kinds {
     PLANK_REPORT_PATH_IN_GROUP = 8,
     PLANK_REPORT_EMPTY_GROUP = 9,
     PLANK_REPORT_NEEDLESS_BRACES = 10,
-    PLANK_REPORT_NON_ASCII = 11,
+    PLANK_REPORT_NON_ASCII = 11,        /* reserved: never made */
     PLANK_REPORT_BAD_HEX_ESCAPE = 12,
     PLANK_REPORT_UNKNOWN_ESCAPE = 13,   /* the character's Unicode number */
     PLANK_REPORT_NON_HEX_DIGIT = 14,    /* the character's Unicode number */

@@ -83,6 +83,26 @@ static void test_views(void) {
     CHECK(plank_is_none(plank_call_expr_arg(nodes, WORDS, call, 2)));
 }
 
+/* The bytes of a string are those of the script, accents too. */
+static void test_accents(void) {
+    static const char spruce[] = "\xc3\xa9pinette";
+    static const char text[] = "const a = \"\xc3\xa9pinette\";";
+    struct plank_counts counts;
+    struct plank_node node;
+    struct plank_value value;
+    uint32_t def, i;
+    CHECK(plank_checked_read((const uint8_t *)text, sizeof text - 1, words(tokens, WORDS), words(nodes, WORDS),
+                             words(values, WORDS), words(reports, WORDS), &counts) == 0);
+    CHECK(counts.reports == 0);
+    def = (uint32_t)plank_file_def(nodes, WORDS, 0, 0);
+    CHECK(plank_node_at(nodes, WORDS, (uint32_t)plank_const_decl_assign(nodes, WORDS, def), &node));
+    CHECK(node.kind == PLANK_NODE_STRING_LITERAL && plank_value_at(values, WORDS, node.payload, &value));
+    CHECK(value.count == sizeof spruce - 1);
+    for (i = 0; i < value.count; i++) {
+        CHECK(plank_value_byte(value, i) == (uint8_t)spruce[i]);
+    }
+}
+
 /* Refusals leave all words 0, and the counts. */
 static void test_refusals(void) {
     struct plank_counts counts = {7, 7, 7, 7};
@@ -297,6 +317,7 @@ static void test_misuse(void) {
 int main(void) {
     test_reading();
     test_views();
+    test_accents();
     test_refusals();
     test_altered_words();
     test_walks();

@@ -12,7 +12,7 @@ pub struct Report {
     pub span: SourceSpan,
 }
 
-/// What is wrong, with 01's detail.
+/// What is wrong, with 01's detail. `NonAscii` is reserved: no text has such a report.
 #[derive(Debug, Clone, Copy, PartialEq, Eq, Hash)]
 pub enum ReportKind {
     LexerError(ErrorToken),
@@ -107,7 +107,7 @@ impl fmt::Display for Report {
             ReportKind::PathInGroup => write!(f, "a path in an import group"),
             ReportKind::EmptyGroup => write!(f, "an empty import group"),
             ReportKind::NeedlessBraces => write!(f, "an import group of one"),
-            ReportKind::NonAscii => write!(f, "characters in a string that are not ASCII"),
+            ReportKind::NonAscii => write!(f, "a kind that is never made"),
             ReportKind::BadHexEscape => write!(f, "a bad \\x in a string"),
             ReportKind::UnknownEscape(c) => write!(f, "an unknown {c:?} after a backslash"),
             ReportKind::NonHexDigit(c) => write!(f, "{c:?} is no hexadecimal digit"),

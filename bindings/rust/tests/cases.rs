@@ -109,6 +109,20 @@ fn p8_to_p10_are_bytes() {
 }
 
 #[test]
+fn strings_hold_any_characters() {
+    let tree = plank::parse("const a = \"épinette\";").unwrap();
+    let Some(TopLevelDef::Const(decl)) = tree.as_file().iter_defs().next() else { panic!() };
+    let Expr::StringLiteral { value: id, .. } = decl.assign else { panic!("{:?}", decl.assign) };
+    assert_eq!(tree.bytes(id), Some("épinette".as_bytes().to_vec()));
+    assert_eq!(tree.reports().len(), 0);
+
+    let (e_acute, escape) = (r#""\xc3\xa9""#.to_string(), ReportKind::UnknownEscape('é'));
+    assert_eq!(value(r#""é\é""#), (e_acute.clone(), vec![escape]));
+    assert_eq!(value(r#""\x4éé""#), (e_acute, vec![ReportKind::BadHexEscape]));
+    assert_eq!(value(r#"hex"éé""#), (r#""\x00""#.to_string(), vec![ReportKind::NonHexDigit('é')]));
+}
+
+#[test]
 fn p11_and_p12_are_statements() {
     assert_eq!(init("init { {} (a) }"), "{(call {} a)}");
     assert_eq!(init("init { comptime {} (a) }"), "{(comptime {}); a}");

@@ -15,6 +15,7 @@ use Rattle.chart.specs.Row.{RowToken}
 use Rattle.chart.specs.Tree.{Tree, Trees, none, _▸_}
 use Rattle.chart.specs.Parser.{Outcome, readers, readLevel, readBlock, parse}
 use Rattle.tree.specs.Grown.{Built}
+use Rattle.utf8.specs.Bytes.{AreBytes}
 use Rattle.agreement.specs.Run.{run-ok}
 use Rattle.agreement.specs.Sim.{Sim, gives, fails, sinks, Made, made, Setting, cost, Ahead, over, eof-ahead, next, Fits}
 use Rattle.agreement.specs.Steps.{Found, found, not-found, Blocked, Agrees}
@@ -49,31 +50,32 @@ module _ (text tokens : List ℕ) (end bound : ℕ) where
   blocked-any : (d e : ℕ) (w : World) (kind : ℕ) (xs : List RowToken) (n : ℕ) (u : World) (o : Outcome) → Blocked (at-depth d) w kind xs n u o → Blocked (at-depth e) w kind xs n u o
   blocked-any d e w kind xs n u o (made (b, f, l)) = made (b, fits-any d e u f, l)
 
-  pub agrees-at : length tokens ≤ 2 ^ 26 → (d : ℕ) → Agrees (at-depth d)
+  pub agrees-at : length tokens ≤ 2 ^ 26 → AreBytes text → (d : ℕ) → Agrees (at-depth d)
   unfolding towerA readers
-  agrees-at few zero = record { few = few; exprs = λ mode min level w xs q f. sinks; blocks = λ start kind w xs e f. sinks }
-  agrees-at few (suc d) =
+  agrees-at few bytes zero = record { few = few; bytes = bytes; exprs = λ mode min level w xs q f. sinks; blocks = λ start kind w xs e f. sinks }
+  agrees-at few bytes (suc d) =
       record {
         few = few;
+        bytes = bytes;
         exprs = λ mode min level w xs q f.
             subst (λ r. Sim (Found (at-depth (suc d)) w xs) r (readLevel (readers d) (allowsStructLiteral mode) level xs)) (run-ok text tokens end bound _ (tryParseExprMinBp mode min) w)
-            (weaker (λ x u o. found-any d (suc d)) (expression-read (at-depth d) (agrees-at few d) mode min level w xs q (fits-any (suc d) d w f)));
+            (weaker (λ x u o. found-any d (suc d)) (expression-read (at-depth d) (agrees-at few bytes d) mode min level w xs q (fits-any (suc d) d w f)));
         blocks = λ start kind w xs e f.
             subst (λ r. Sim (Blocked (at-depth (suc d)) w kind xs) r (readBlock (readers d) xs)) (run-ok text tokens end bound _ (parseBlock start kind) w)
-            (weaker (blocked-any d (suc d) w kind xs) (block (at-depth d) (agrees-at few d) start kind w xs e (fits-any (suc d) d w f)));
+            (weaker (blocked-any d (suc d) w kind xs) (block (at-depth d) (agrees-at few bytes d) start kind w xs e (fits-any (suc d) d w f)));
       }
 
 -- What the file comes to: the tree built from nothing, at node 0, and the row read to its end.
 pub data FileRead (text tokens : List ℕ) (n : ℕ) (u : World) : Trees → List RowToken → Type 0 where
   file-read : {t : Tree} → n ≡ 0 → Built text tokens [] [] (u .store) (u .values) 0 t → u .sane ≡ true → FileRead text tokens n u (t ▸ none) []
 
-pub file-agrees : (text tokens : List ℕ) {xs : List RowToken} → length tokens ≤ 2 ^ 26 → Ahead (at-depth text tokens (tokenLimit tokens) (tokenLimit tokens + 1) maxDepth) (rowFrom tokens 0 (tokenLimit tokens)) xs → cost xs < 2 ^ 26 → length xs ≤ tokenLimit tokens
+pub file-agrees : (text tokens : List ℕ) {xs : List RowToken} → length tokens ≤ 2 ^ 26 → AreBytes text → Ahead (at-depth text tokens (tokenLimit tokens) (tokenLimit tokens + 1) maxDepth) (rowFrom tokens 0 (tokenLimit tokens)) xs → cost xs < 2 ^ 26 → length xs ≤ tokenLimit tokens
     → Sim (Made (FileRead text tokens)) (parsedA text tokens) (parse maxDepth xs)
 unfolding parsedA parse
-file-agrees text tokens {xs} few ahead room short =
+file-agrees text tokens {xs} few bytes ahead room short =
     let s = at-depth text tokens (tokenLimit tokens) (tokenLimit tokens + 1) maxDepth in
     subst (λ r. Sim (Made (FileRead text tokens)) r (parse maxDepth xs)) (run-ok text tokens (tokenLimit tokens) (tokenLimit tokens + 1) _ parseFile (startA tokens))
-    (weaker whole (file-rule s (agrees-at text tokens (tokenLimit tokens) (tokenLimit tokens + 1) few maxDepth) (startA tokens) xs refl refl refl ahead room (omega arith)))
+    (weaker whole (file-rule s (agrees-at text tokens (tokenLimit tokens) (tokenLimit tokens + 1) few bytes maxDepth) (startA tokens) xs refl refl refl ahead room (omega arith)))
   where
     whole : (n : ℕ) (u : World) (o : Outcome) → Made (λ n u ts ys. (t : Tree) × (ts ≡ t ▸ none) × (n ≡ 0) × Built text tokens [] [] (u .store) (u .values) 0 t × (u .sane ≡ true) × (ys ≡ [])) n u o → Made (FileRead text tokens) n u o
     whole n u _ (made (t, e, z, b, g, q)) = rw (e, q) (made (file-read z b g))

@@ -6,9 +6,10 @@ use mathlib.Core.List.{List, [], _∷_, _++_}
 use Prim.Native.Nat.{ℕ, zero, suc, _+_, _-_, _*_, _/_, _%_, _^_, _<_, _≤_}
 use native.Mathlib.Omega.{arith}
 use native.Mathlib.Nat.{add-zero, zero-add, mul-le-mul-left}
-use borrow.Author.Tests.{eqb-true, eqb-false, eq-eqb, leb-true, ltb-true}
-use lib.Dec.{eqb, ltb, leb}
+use borrow.Author.Tests.{eqb-true, eqb-false, eq-eqb, leb-true}
+use lib.Dec.{eqb, leb}
 use lib.ListN.{length, getD, take, drop, length-take, length-drop}
+use lib.Seq.{slice}
 use Rattle.words.specs.Report
 use Rattle.words.specs.Words.{tokenKind, tokenEnd, nodeHead, nodeKind, nodePayload}
 use Rattle.words.specs.Laws.{high-pack, low-pack}
@@ -16,12 +17,12 @@ use Rattle.utf8.specs.Utf8.{characterAt}
 use Rattle.utf8.specs.declared.Character.{Character}
 use Rattle.utf8.specs.declared.Character.the-variants.{Is, Nothing}
 use Rattle.literals.specs.declared.Span.{Span}
-use Rattle.literals.specs.Spelling.{wordAt, tokenStart, spelling, alike, firstFrom, firstAlike}
+use Rattle.literals.specs.Spelling.{span, wordAt, tokenStart, covered, spelling, alike, firstFrom, firstAlike}
 use Rattle.literals.specs.Numbers.{nibble, digits, limbBase, limbsWithin, limbs, numberValue}
-use Rattle.literals.specs.Strings.{Event, byte, report, bytesOf, Char, char, charactersFrom, inside, isAscii, run, Piece, piece, from, endAfter, escape, twoDigits, escaped, decodedPiece, decodedFrom, decodeString, badDigit, isBad, digitOr0, hexFrom, decodeHex, fours, stringValue}
+use Rattle.literals.specs.Strings.{Event, byte, report, bytesOf, Char, char, charactersFrom, Piece, piece, between, endAfter, escape, twoDigits, escaped, decodedFrom, decodeString, badDigit, isBad, digitOr0, hexFrom, decodeHex, fours, stringValue}
 use Rattle.definition.specs.Quiet.{word-inside}
 use Rattle.chart.specs.Tree.{quiet}
-use Rattle.tree.specs.Values.{AreBytes}
+use Rattle.utf8.specs.Bytes.{AreBytes, are-bytes-drop, are-bytes-take}
 
 -- ---- heads of nodes
 
@@ -150,22 +151,25 @@ number-few radix prefix s h =
 
 -- ---- strings
 
--- The same characters, wherever they stand.
-data Same : List Char → List Char → Type 0 where
-  none-same : Same [] []
-  one-same : {c d : Char} {cs ds : List Char} → c .code ≡ d .code → Same cs ds → Same (c ∷ cs) (d ∷ ds)
+-- The same characters, one list of them counted from `a`, the other from `b`.
+data Same (a b : ℕ) : List Char → List Char → Type 0 where
+  none-same : Same a b [] []
+  one-same : {c d : Char} {cs ds : List Char} → c .code ≡ d .code → c .place .end + b ≡ d .place .end + a → Same a b cs ds → Same a b (c ∷ cs) (d ∷ ds)
 
-characters-same : (a b skip : ℕ) (s : List ℕ) → Same (charactersFrom a skip s) (charactersFrom b skip s)
+one-on : (a n : ℕ) → a + n + 1 ≡ a + (n + 1)
+one-on a n = omega arith
+
+characters-same : (a b n skip : ℕ) (s : List ℕ) → Same a b (charactersFrom (a + n) skip s) (charactersFrom (b + n) skip s)
 unfolding charactersFrom
-characters-same a b skip [] = none-same
-characters-same a b (suc skip) (x ∷ s) = characters-same (a + 1) (b + 1) skip s
-characters-same a b zero (x ∷ s) = go (characterAt (x ∷ s)) (λ k. characters-same (a + 1) (b + 1) k s)
+characters-same a b n skip [] = none-same
+characters-same a b n (suc skip) (x ∷ s) = rw (one-on a n, one-on b n) (characters-same a b (n + 1) skip s)
+characters-same a b n zero (x ∷ s) = go (characterAt (x ∷ s)) (λ k. rw (one-on a n, one-on b n) (characters-same a b (n + 1) k s))
   where
-    go : (c : Character) → ((k : ℕ) → Same (charactersFrom (a + 1) k s) (charactersFrom (b + 1) k s))
-        → Same (elim c [ Is c n ↦ char c a (a + n) ∷ charactersFrom (a + 1) (n - 1) s | Nothing ↦ char x a (a + 1) ∷ charactersFrom (a + 1) 0 s ])
-        (elim c [ Is c n ↦ char c b (b + n) ∷ charactersFrom (b + 1) (n - 1) s | Nothing ↦ char x b (b + 1) ∷ charactersFrom (b + 1) 0 s ])
-    go (Is c n) ih = one-same refl (ih (n - 1))
-    go Nothing ih = one-same refl (ih 0)
+    go : (c : Character) → ((k : ℕ) → Same a b (charactersFrom (a + n + 1) k s) (charactersFrom (b + n + 1) k s))
+        → Same a b (elim c [ Is c m ↦ char c (a + n) (a + n + m) ∷ charactersFrom (a + n + 1) (m - 1) s | Nothing ↦ char x (a + n) (a + n + 1) ∷ charactersFrom (a + n + 1) 0 s ])
+        (elim c [ Is c m ↦ char c (b + n) (b + n + m) ∷ charactersFrom (b + n + 1) (m - 1) s | Nothing ↦ char x (b + n) (b + n + 1) ∷ charactersFrom (b + n + 1) 0 s ])
+    go (Is c m) ih = one-same {c = char c (a + n) (a + n + m)} {d = char c (b + n) (b + n + m)} refl (omega arith) (ih (m - 1))
+    go Nothing ih = one-same {c = char x (a + n) (a + n + 1)} {d = char x (b + n) (b + n + 1)} refl (omega arith) (ih 0)
 
 -- The same byte, or two reports.
 data Like : Event → Event → Type 0 where
@@ -192,59 +196,71 @@ quiet-like none-like = refl
 quiet-like (one-like both-bytes l) = quiet-like l
 quiet-like (one-like both-reports l) = refl
 
-record Agree (p q : Piece) : Type 0 where
-  takes : p .takes ≡ q .takes
+record Agree (a b : ℕ) (p q : Piece) : Type 0 where
+  ends : p .end + b ≡ q .end + a
   events : Like (p .event) (q .event)
 
-run-same : {cs ds : List Char} → Same cs ds → run cs ≡ run ds
-unfolding run
-run-same none-same = refl
-run-same (one-same e s) = rw (e, run-same s) refl
-
-digits-same : {cs ds : List Char} → Same cs ds → twoDigits cs ≡ twoDigits ds
+digits-same : {a b : ℕ} {cs ds : List Char} → Same a b cs ds → twoDigits cs ≡ twoDigits ds
 unfolding twoDigits
 digits-same none-same = refl
-digits-same (one-same e none-same) = refl
-digits-same (one-same e (one-same f s)) = rw (e, f) refl
+digits-same (one-same e p none-same) = refl
+digits-same (one-same e p (one-same f q s)) = rw (e, f) refl
 
-escaped-same : (c d : Char) {cs ds : List Char} → Same cs ds → Agree (escaped c cs) (escaped d ds)
-unfolding escaped endAfter
-escaped-same c d none-same = record { takes = refl; events = both-reports }
-escaped-same c d (one-same {c = e} {d = f} {cs} {ds} q s) = rw q (go (escape (f .code)) (eqb (f .code) 120) (twoDigits cs) (twoDigits ds) (digits-same s))
+ends-same : {a b : ℕ} (n x y : ℕ) {cs ds : List Char} → x + b ≡ y + a → Same a b cs ds → endAfter x n cs + b ≡ endAfter y n ds + a
+unfolding endAfter
+ends-same zero x y h s = h
+ends-same (suc n) x y h none-same = h
+ends-same (suc n) x y h (one-same e p s) = ends-same n _ _ p s
+
+escaped-same : (a b : ℕ) {cs ds : List Char} → Same a b cs ds → Agree a b (escaped a cs) (escaped b ds)
+unfolding escaped
+escaped-same a b none-same = record { ends = omega arith; events = both-reports }
+escaped-same a b (one-same {c = e} {d = f} {cs} {ds} q p s) = rw q (go (escape (f .code)) (eqb (f .code) 120) (twoDigits cs) (twoDigits ds) (digits-same s))
   where
+    m : ℕ
+    m = endAfter (e .place .end) 2 cs
+
+    n : ℕ
+    n = endAfter (f .place .end) 2 ds
+
+    g : m + b ≡ n + a
+    g = ends-same 2 (e .place .end) (f .place .end) p s
+
     go : (o : Option ℕ) (x : Bool) (t u : Option ℕ) → t ≡ u
-        → Agree (elim o [ some b ↦ piece (byte b) 1 | none ↦ elim x [ true ↦ elim t [ some b ↦ piece (byte b) 3 | none ↦ piece (report Report.BadHexEscape 0 (from c 3 (e ∷ cs))) 3 ] | false ↦ piece (report Report.UnknownEscape (f .code) (from c 1 (e ∷ cs))) 1 ] ])
-        (elim o [ some b ↦ piece (byte b) 1 | none ↦ elim x [ true ↦ elim u [ some b ↦ piece (byte b) 3 | none ↦ piece (report Report.BadHexEscape 0 (from d 3 (f ∷ ds))) 3 ] | false ↦ piece (report Report.UnknownEscape (f .code) (from d 1 (f ∷ ds))) 1 ] ])
-    go (some b) x t u h = record { takes = refl; events = both-bytes }
-    go none true (some a) (some b) h = let z : a ≡ b = cc in rw z (record { takes = refl; events = both-bytes })
-    go none true (some a) none h = absurd (let z : _≡_ {A = ℕ} 0 1 = cc in omega arith)
-    go none true none (some b) h = absurd (let z : _≡_ {A = ℕ} 0 1 = cc in omega arith)
-    go none true none none h = record { takes = refl; events = both-reports }
-    go none false t u h = record { takes = refl; events = both-reports }
+        → Agree a b (elim o [ some b ↦ piece (byte b) (e .place .end) | none ↦ elim x [ true ↦ elim t [ some b ↦ piece (byte b) m | none ↦ piece (report Report.BadHexEscape 0 (span a m)) m ] | false ↦ piece (report Report.UnknownEscape (f .code) (span a (e .place .end))) (e .place .end) ] ])
+        (elim o [ some b ↦ piece (byte b) (f .place .end) | none ↦ elim x [ true ↦ elim u [ some b ↦ piece (byte b) n | none ↦ piece (report Report.BadHexEscape 0 (span b n)) n ] | false ↦ piece (report Report.UnknownEscape (f .code) (span b (f .place .end))) (f .place .end) ] ])
+    go (some c) x t u h = record { ends = p; events = both-bytes }
+    go none true (some c) (some d) h = let z : c ≡ d = cc in rw z (record { ends = g; events = both-bytes })
+    go none true (some c) none h = absurd (let z : _≡_ {A = ℕ} 0 1 = cc in omega arith)
+    go none true none (some d) h = absurd (let z : _≡_ {A = ℕ} 0 1 = cc in omega arith)
+    go none true none none h = record { ends = g; events = both-reports }
+    go none false t u h = record { ends = p; events = both-reports }
 
-piece-same : (c d : Char) {cs ds : List Char} → c .code ≡ d .code → Same cs ds → Agree (decodedPiece c cs) (decodedPiece d ds)
-unfolding decodedPiece
-piece-same c d {cs} {ds} e s = go (isAscii c) (isAscii d) (eqb (c .code) 92) (eqb (d .code) 92) (ap (λ (n : ℕ). ltb n 128) e) (ap (λ (n : ℕ). eqb n 92) e)
-  where
-    go : (a b x y : Bool) → a ≡ b → x ≡ y
-        → Agree (elim a [ false ↦ piece (report Report.NonAscii 0 (from c (run cs) cs)) (run cs) | true ↦ elim x [ true ↦ escaped c cs | false ↦ piece (byte (c .code)) 0 ] ])
-        (elim b [ false ↦ piece (report Report.NonAscii 0 (from d (run ds) ds)) (run ds) | true ↦ elim y [ true ↦ escaped d ds | false ↦ piece (byte (d .code)) 0 ] ])
-    go false false x y f g = record { takes = run-same s; events = both-reports }
-    go false true x y f g = absurd (false≢true f)
-    go true false x y f g = absurd (true≢false f)
-    go true true true true f g = escaped-same c d s
-    go true true true false f g = absurd (true≢false g)
-    go true true false true f g = absurd (false≢true g)
-    go true true false false f g = rw e (record { takes = refl; events = both-bytes })
-
-decoded-same : (taken : ℕ) {cs ds : List Char} → Same cs ds → Likes (decodedFrom taken cs) (decodedFrom taken ds)
+decoded-same : (a b taken : ℕ) (s : List ℕ) → Likes (decodedFrom a taken s) (decodedFrom b taken s)
 unfolding decodedFrom
-decoded-same taken none-same = none-like
-decoded-same (suc taken) (one-same e s) = decoded-same taken s
-decoded-same zero (one-same {c} {d} {cs} {ds} e s) =
-    let a = piece-same c d e s in
-    let l : Likes (decodedFrom (decodedPiece c cs .takes) cs) (decodedFrom (decodedPiece d ds .takes) ds) = rw (a .takes) (decoded-same (decodedPiece d ds .takes) s) in
-    one-like (a .events) l
+decoded-same a b taken [] = none-like
+decoded-same a b (suc taken) (x ∷ s) = decoded-same (a + 1) (b + 1) taken s
+decoded-same a b zero (x ∷ s) = go (eqb x 92) (λ taken. decoded-same (a + 1) (b + 1) taken s)
+  where
+    l : List Char
+    l = charactersFrom (a + 1) 0 s
+
+    r : List Char
+    r = charactersFrom (b + 1) 0 s
+
+    g : Agree a b (escaped a l) (escaped b r)
+    g = escaped-same a b (characters-same a b 1 0 s)
+
+    e : escaped a l .end - (a + 1) ≡ escaped b r .end - (b + 1)
+    e = omega (arith, g .ends)
+
+    go : (t : Bool) → ((taken : ℕ) → Likes (decodedFrom (a + 1) taken s) (decodedFrom (b + 1) taken s))
+        → Likes (cond t (escaped a l .event ∷ decodedFrom (a + 1) (escaped a l .end - (a + 1)) s) (byte x ∷ decodedFrom (a + 1) 0 s))
+        (cond t (escaped b r .event ∷ decodedFrom (b + 1) (escaped b r .end - (b + 1)) s) (byte x ∷ decodedFrom (b + 1) 0 s))
+    go true ih =
+        let m : Likes (decodedFrom (a + 1) (escaped a l .end - (a + 1)) s) (decodedFrom (b + 1) (escaped b r .end - (b + 1)) s) = rw e (ih (escaped b r .end - (b + 1))) in
+        one-like (g .events) m
+    go false ih = one-like both-bytes (ih 0)
 
 bad-same : (already : Bool) (c d : Char) → c .code ≡ d .code → Likes (badDigit already c) (badDigit already d)
 unfolding badDigit
@@ -264,22 +280,22 @@ digit-same : (c d : Char) → c .code ≡ d .code → digitOr0 c ≡ digitOr0 d
 unfolding digitOr0
 digit-same c d e = rw e refl
 
-hex-same : (p q : Span) (already : Bool) {cs ds : List Char} → Same cs ds → Likes (hexFrom p already cs) (hexFrom q already ds)
+hex-same : {a b : ℕ} (p q : Span) (already : Bool) {cs ds : List Char} → Same a b cs ds → Likes (hexFrom p already cs) (hexFrom q already ds)
 unfolding hexFrom
 hex-same p q already none-same = none-like
-hex-same p q already (one-same {c} {d} e none-same) = likes-append (bad-same already c d e) (one-like both-reports none-like)
-hex-same p q already (one-same {c} {d} e (one-same {c = x} {d = y} f s)) =
+hex-same p q already (one-same {c} {d} e g none-same) = likes-append (bad-same already c d e) (one-like both-reports none-like)
+hex-same p q already (one-same {c} {d} e g (one-same {c = x} {d = y} f h s)) =
     rw (is-bad-same c d e, is-bad-same x y f, digit-same c d e, digit-same x y f)
     (likes-append (bad-same already c d e) (likes-append (bad-same _ x y f) (one-like both-bytes (hex-same p q _ s))))
 
 module _ (p q : Span) (s : List ℕ) where
   string-like : Likes (decodeString p s) (decodeString q s)
   unfolding decodeString
-  string-like = decoded-same 0 (characters-same _ _ 0 _)
+  string-like = decoded-same (p .start + 1) (q .start + 1) 0 (between 1 s)
 
   hex-like : Likes (decodeHex p s) (decodeHex q s)
   unfolding decodeHex
-  hex-like = hex-same p q false (characters-same _ _ 0 _)
+  hex-like = hex-same p q false (characters-same (p .start) (q .start) 4 0 (between 4 s))
 
   -- What a token decodes to, and whether it does without a report, does not depend on its place.
   pub string-bytes-same : bytesOf (decodeString p s) ≡ bytesOf (decodeString q s)
@@ -306,20 +322,23 @@ characters-few at zero (b ∷ s) = go (characterAt (b ∷ s)) (λ k. characters-
     go (Is c n) ih = omega (arith, ih (n - 1))
     go Nothing ih = omega (arith, ih 0)
 
-inside-few : (opening at : ℕ) (s : List ℕ) → length (inside opening at s) ≤ length s
-inside-few opening at s =
-    let t = take (length s - (opening + 1)) (drop opening s) in
-    omega (arith, characters-few (at + opening) 0 t, length-take (length s - (opening + 1)) (drop opening s), length-drop opening s)
+between-few : (opening : ℕ) (s : List ℕ) → length (between opening s) ≤ length s
+between-few opening s = omega (arith, length-take (length s - (opening + 1)) (drop opening s), length-drop opening s)
 
-decoded-few : (taken : ℕ) (cs : List Char) → length (bytesOf (decodedFrom taken cs)) ≤ length cs
+decoded-few : (at taken : ℕ) (s : List ℕ) → length (bytesOf (decodedFrom at taken s)) ≤ length s
 unfolding decodedFrom bytesOf
-decoded-few taken [] = omega arith
-decoded-few (suc taken) (c ∷ cs) = omega (arith, decoded-few taken cs)
-decoded-few zero (c ∷ cs) = go (decodedPiece c cs .event) (decodedFrom (decodedPiece c cs .takes) cs) (decoded-few (decodedPiece c cs .takes) cs)
+decoded-few at taken [] = omega arith
+decoded-few at (suc taken) (b ∷ s) = omega (arith, decoded-few (at + 1) taken s)
+decoded-few at zero (b ∷ s) = go (eqb b 92) (escaped at (charactersFrom (at + 1) 0 s) .event) (λ taken. decoded-few (at + 1) taken s)
   where
-    go : (e : Event) (es : List Event) → length (bytesOf es) ≤ length cs → length (bytesOf (e ∷ es)) ≤ suc (length cs)
-    go (byte b) es h = omega arith
-    go (report k d p) es h = omega arith
+    k : ℕ
+    k = escaped at (charactersFrom (at + 1) 0 s) .end - (at + 1)
+
+    go : (t : Bool) (e : Event) → ((taken : ℕ) → length (bytesOf (decodedFrom (at + 1) taken s)) ≤ length s)
+        → length (bytesOf (cond t (e ∷ decodedFrom (at + 1) k s) (byte b ∷ decodedFrom (at + 1) 0 s))) ≤ suc (length s)
+    go true (byte c) ih = omega (arith, ih k)
+    go true (report c d p) ih = omega (arith, ih k)
+    go false e ih = omega (arith, ih 0)
 
 bytes-append : (xs ys : List Event) → bytesOf (xs ++ ys) ≡ bytesOf xs ++ bytesOf ys
 unfolding bytesOf
@@ -356,24 +375,16 @@ hex-few p already (c ∷ d ∷ cs) = rw (hex-two p already c d cs) (omega (arith
 -- A token gives no more bytes than its spelling has.
 pub string-few : (p : Span) (s : List ℕ) → length (bytesOf (decodeString p s)) ≤ length s
 unfolding decodeString
-string-few p s = omega (arith, decoded-few 0 (inside 1 (p .start) s), inside-few 1 (p .start) s)
+string-few p s = omega (arith, decoded-few (p .start + 1) 0 (between 1 s), between-few 1 s)
 
 pub hex-string-few : (p : Span) (s : List ℕ) → length (bytesOf (decodeHex p s)) ≤ length s
 unfolding decodeHex
-hex-string-few p s = omega (arith, hex-few p false (inside 4 (p .start) s), inside-few 4 (p .start) s)
-
--- Bytes of one list and then of another.
-pub are-bytes-append : (a b : List ℕ) → AreBytes a → AreBytes b → AreBytes (a ++ b)
-are-bytes-append [] b h g = g
-are-bytes-append (x ∷ a) b h g = (h .0, are-bytes-append a b (h .1) g)
+hex-string-few p s = omega (arith, hex-few p false (charactersFrom (p .start + 4) 0 (between 4 s)), characters-few (p .start + 4) 0 (between 4 s), between-few 4 s)
 
 -- An event that is no report is a byte.
 abbrev IsByte : Event → Type 0
 IsByte (byte b) = b < 256
 IsByte (report k d p) = Unit {0}
-
-abbrev MakesByte : Piece → Type 0
-MakesByte p = IsByte (p .event)
 
 escape-small : (c b : ℕ) → escape c ≡ some b → b < 256
 unfolding escape
@@ -399,37 +410,40 @@ two-small (d ∷ e ∷ cs) b q = go (nibble (d .code)) (nibble (e .code)) refl r
     go (some h) none f g q = absurd (let z : _≡_ {A = ℕ} 0 1 = cc in omega arith)
     go none y f g q = absurd (let z : _≡_ {A = ℕ} 0 1 = cc in omega arith)
 
-escaped-byte : (c : Char) (cs : List Char) → MakesByte (escaped c cs)
+abbrev MakesByte : Piece → Type 0
+MakesByte p = IsByte (p .event)
+
+escaped-byte : (at : ℕ) (cs : List Char) → MakesByte (escaped at cs)
 unfolding escaped
-escaped-byte c [] = tt
-escaped-byte c (e ∷ cs) = go (escape (e .code)) (eqb (e .code) 120) (twoDigits cs) refl refl
+escaped-byte at [] = tt
+escaped-byte at (e ∷ cs) = go (escape (e .code)) (eqb (e .code) 120) (twoDigits cs) refl refl
   where
+    one : ℕ
+    one = e .place .end
+
+    three : ℕ
+    three = endAfter one 2 cs
+
     go : (o : Option ℕ) (x : Bool) (t : Option ℕ) → escape (e .code) ≡ o → twoDigits cs ≡ t
-        → MakesByte (elim o [ some b ↦ piece (byte b) 1 | none ↦ elim x [ true ↦ elim t [ some b ↦ piece (byte b) 3 | none ↦ piece (report Report.BadHexEscape 0 (from c 3 (e ∷ cs))) 3 ] | false ↦ piece (report Report.UnknownEscape (e .code) (from c 1 (e ∷ cs))) 1 ] ])
+        → MakesByte (elim o [ some b ↦ piece (byte b) one | none ↦ elim x [ true ↦ elim t [ some b ↦ piece (byte b) three | none ↦ piece (report Report.BadHexEscape 0 (span at three)) three ] | false ↦ piece (report Report.UnknownEscape (e .code) (span at one)) one ] ])
     go (some b) x t f g = escape-small (e .code) b f
     go none true (some b) f g = two-small cs b g
     go none true none f g = tt
     go none false t f g = tt
 
-piece-byte : (c : Char) (cs : List Char) → MakesByte (decodedPiece c cs)
-unfolding decodedPiece
-piece-byte c cs = go (isAscii c) (eqb (c .code) 92) refl
-  where
-    go : (a b : Bool) → isAscii c ≡ a
-        → MakesByte (elim a [ false ↦ piece (report Report.NonAscii 0 (from c (run cs) cs)) (run cs) | true ↦ elim b [ true ↦ escaped c cs | false ↦ piece (byte (c .code)) 0 ] ])
-    go false b e = tt
-    go true true e = escaped-byte c cs
-    go true false e = omega (arith, ltb-true (c .code) 128 e)
-
-decoded-bytes : (taken : ℕ) (cs : List Char) → AreBytes (bytesOf (decodedFrom taken cs))
+decoded-bytes : (at taken : ℕ) (s : List ℕ) → AreBytes s → AreBytes (bytesOf (decodedFrom at taken s))
 unfolding decodedFrom bytesOf
-decoded-bytes taken [] = tt
-decoded-bytes (suc taken) (c ∷ cs) = decoded-bytes taken cs
-decoded-bytes zero (c ∷ cs) = go (decodedPiece c cs .event) (decodedFrom (decodedPiece c cs .takes) cs) (piece-byte c cs) (decoded-bytes (decodedPiece c cs .takes) cs)
+decoded-bytes at taken [] h = tt
+decoded-bytes at (suc taken) (b ∷ s) h = decoded-bytes (at + 1) taken s (h .1)
+decoded-bytes at zero (b ∷ s) h = go (eqb b 92) (escaped at (charactersFrom (at + 1) 0 s) .event) (escaped-byte at (charactersFrom (at + 1) 0 s)) (λ taken. decoded-bytes (at + 1) taken s (h .1))
   where
-    go : (e : Event) (es : List Event) → IsByte e → AreBytes (bytesOf es) → AreBytes (bytesOf (e ∷ es))
-    go (byte b) es h g = (h, g)
-    go (report k d p) es h g = g
+    k : ℕ
+    k = escaped at (charactersFrom (at + 1) 0 s) .end - (at + 1)
+
+    go : (t : Bool) (e : Event) → IsByte e → ((taken : ℕ) → AreBytes (bytesOf (decodedFrom (at + 1) taken s))) → AreBytes (bytesOf (cond t (e ∷ decodedFrom (at + 1) k s) (byte b ∷ decodedFrom (at + 1) 0 s)))
+    go true (byte c) i ih = (i, ih k)
+    go true (report c d p) i ih = ih k
+    go false e i ih = (h .0, ih 0)
 
 digit-small : (c : Char) → digitOr0 c < 16
 unfolding digitOr0
@@ -444,14 +458,29 @@ hex-bytes p already [] = unfold hexFrom bytesOf in tt
 hex-bytes p already (c ∷ []) = rw (hex-one p already c) tt
 hex-bytes p already (c ∷ d ∷ cs) = rw (hex-two p already c d cs) (omega (arith, digit-small c, digit-small d), hex-bytes p (already || isBad c || isBad d) cs)
 
+pub spelling-are-bytes : (text tokens : List ℕ) (i : ℕ) → AreBytes text → AreBytes (spelling text tokens i)
+unfolding covered
+spelling-are-bytes text tokens i h = go (leb start end) (leb end (length text))
+  where
+    start : ℕ
+    start = tokenStart tokens i
+
+    end : ℕ
+    end = tokenEnd (wordAt tokens i)
+
+    go : (a b : Bool) → AreBytes (cond (a && b) (slice start end text) [])
+    go true true = are-bytes-drop start (take end text) (are-bytes-take end text h)
+    go true false = tt
+    go false b = tt
+
 -- What a token decodes to are bytes.
-pub string-are-bytes : (p : Span) (s : List ℕ) → AreBytes (bytesOf (decodeString p s))
+pub string-are-bytes : (p : Span) (s : List ℕ) → AreBytes s → AreBytes (bytesOf (decodeString p s))
 unfolding decodeString
-string-are-bytes p s = decoded-bytes 0 (inside 1 (p .start) s)
+string-are-bytes p s h = decoded-bytes (p .start + 1) 0 (between 1 s) (are-bytes-take (length s - 2) (drop 1 s) (are-bytes-drop 1 s h))
 
 pub hex-are-bytes : (p : Span) (s : List ℕ) → AreBytes (bytesOf (decodeHex p s))
 unfolding decodeHex
-hex-are-bytes p s = hex-bytes p false (inside 4 (p .start) s)
+hex-are-bytes p s = hex-bytes p false (charactersFrom (p .start + 4) 0 (between 4 s))
 
 fours-few : (s : List ℕ) → length (fours s) ≤ length s
 unfolding fours

@@ -91,7 +91,7 @@ module _ (s : Setting) (a : Agrees s) where
       eat-rule s w _ _ refl f (λ j row ys t. last-flagged s (moveTo (suc j) row w) _ Node.BoolLiteral Flag.BoolLiteral-true refl (t .fit) (λ n u d f₁. gives (found d f₁ (t .shorter) (λ _. refl)))) (λ _ i₁.
       eat-rule s (moveTo i₁ (w .row) w) _ _ refl f (λ j row ys t. last-flagged s (moveTo (suc j) row w) _ Node.BoolLiteral 0 refl (t .fit) (λ n u d f₁. gives (found d f₁ (t .shorter) (λ _. refl)))) (λ _ i₂.
       number-rule s (moveTo i₂ (w .row) w) _ _ f (λ n u v ys d f₁ l. gives (found d f₁ l (λ _. refl))) (λ i₃.
-      string-rule s (moveTo i₃ (w .row) w) _ _ f (λ n u bs ys d f₁ l. gives (found d f₁ l (λ _. refl))) (λ i₄.
+      string-rule s (a .bytes) (moveTo i₃ (w .row) w) _ _ f (λ n u bs ys d f₁ l. gives (found d f₁ l (λ _. refl))) (λ i₄.
       eat-rule s (moveTo i₄ (w .row) w) _ _ refl f (λ j row ys t. last-flagged s (moveTo (suc j) row w) _ Node.SelfType 0 refl (t .fit) (λ n u d f₁. gives (found d f₁ (t .shorter) (λ _. refl)))) (λ _ i₅.
       ident-rule s a (moveTo i₅ (w .row) w) _ _ f (λ n u j ys d f₁ l. gives (found d f₁ l (λ _. refl))) (λ _ i₆.
       builtin-rule (moveTo i₆ (w .row) w) _ _ f (λ n u j ys d f₁ l. gives (found d f₁ l (λ _. refl))) (λ i₇.

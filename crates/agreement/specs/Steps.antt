@@ -27,6 +27,7 @@ use Rattle.chart.specs.Parser.{Outcome, bind, try, nothing}
 use Rattle.chart.specs.Parser as Chart
 use Rattle.tree.specs.Stored.{said, isName}
 use Rattle.tree.specs.Grown.{Built, Growing, opened, closed, push, ended, rekinded}
+use Rattle.utf8.specs.Bytes.{AreBytes}
 use Rattle.agreement.specs.Run.{run}
 use Rattle.agreement.specs.Sim.{Sim, gives, fails, sinks, Made, then, call, Setting, runs, Fits, unexpected-rule}
 
@@ -180,6 +181,7 @@ module _ (s : Setting) where
   -- The readers one level deeper agree, and payloads have room for the numbers of tokens.
   pub record Agrees : Type 0 where
     pub few : length (s .tokens) ≤ 2 ^ 26
+    pub bytes : AreBytes (s .text)
     pub exprs : (mode : Mode) (min level : ℕ) (w : World) (xs : List RowToken) → Ranked min level → Fits s w xs → Sim (Found w xs) (s .readers .expr mode min w) (s .rows .expr (allowsStructLiteral mode) level xs)
     pub blocks : (start kind : ℕ) (w : World) (xs : List RowToken) → isFlagged kind 0 ≡ true → Fits s w xs → Sim (Blocked w kind xs) (s .readers .block start kind w) (s .rows .block xs)
 

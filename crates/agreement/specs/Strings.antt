@@ -25,10 +25,11 @@ use Rattle.chart.specs.Tree.{bytes, Trees, node, none, decoded, decodedHex, qui
 use Rattle.chart.specs.Parser.{Outcome, if, on, bind, failed, prepend, readStrings}
 use Rattle.chart.specs.Parser as Chart
 use Rattle.tree.specs.Stored.{said, isName}
-use Rattle.tree.specs.Values.{string-read, AreBytes}
+use Rattle.tree.specs.Values.{string-read}
+use Rattle.utf8.specs.Bytes.{AreBytes, are-bytes-append}
 use Rattle.agreement.specs.Run.{run, turns}
 use Rattle.agreement.specs.Sim.{Sim, gives, fails, Made, made, mapped, call-turns, Setting, runs, lexemeOf, Fit, Fits, cost, first-clean, peek-rule, pass-rule}
-use Rattle.agreement.specs.Literals.{head-parts, string-bytes-same, string-quiet-same, hex-bytes-same, hex-quiet-same, string-few, hex-string-few, are-bytes-append, string-are-bytes, hex-are-bytes, string-value-few}
+use Rattle.agreement.specs.Literals.{head-parts, string-bytes-same, string-quiet-same, hex-bytes-same, hex-quiet-same, string-few, hex-string-few, string-are-bytes, spelling-are-bytes, hex-are-bytes, string-value-few}
 use Rattle.agreement.specs.Steps.{Done, alloc-rule, close-at}
 use Rattle.agreement.specs.Numbers.{built-before}
 
@@ -59,7 +60,8 @@ string-said : (text tokens values bs : List ℕ) → length values < 2 ^ 26 → 
 unfolding said isName
 string-said text tokens values bs h a g = let (x, y) = head-parts Node.StringLiteral (length values) (lit< tt) h in (x, rw (x, y) (string-read values bs a g))
 
-module _ (s : Setting) where
+-- The text's bytes are bytes, so those of its strings are.
+module _ (s : Setting) (text-bytes : AreBytes (s .text)) where
   -- The reports of decoding.
   module _ {B : Type 0} {P : B → World → Outcome → Type 0} where
     emit-quiet : (es : List Event) (w : World) (k : Unit {0} → World → Fate B) {o : Outcome} → quiet es ≡ true → Sim P (k tt w) o → Sim P (runs s (emitEvents es) w k) o
@@ -98,7 +100,7 @@ module _ (s : Setting) where
       record {
         calm = string-quiet-same (Source.tokenSpan (s .tokens) j) (Source.span 0 0) (lexemeOf s j .spelling);
         same = string-bytes-same (Source.tokenSpan (s .tokens) j) (Source.span 0 0) (lexemeOf s j .spelling);
-        are = string-are-bytes (Source.span 0 0) (lexemeOf s j .spelling);
+        are = string-are-bytes (Source.span 0 0) (lexemeOf s j .spelling) (spelling-are-bytes (s .text) (s .tokens) j text-bytes);
         few = string-few (Source.span 0 0) (lexemeOf s j .spelling);
       }
 

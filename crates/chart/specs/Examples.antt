@@ -34,7 +34,7 @@ ascii (String._∷_ c s) = code c ∷ ascii s
 
 -- `parse` with all that it is made of open, so that it computes.
 computed : ℕ → List RowToken → Outcome
-unfolding parse readFile readers readLevel readPrefix readBlock readOperand readRound readStruct readComptime readElseIfs readFields readList readOn onOp onLevel readDeclarations readDeclaration readStatements readStatement readExpression begins on if bind try operatorOf lookup within isBlockLike push Numbers.nibble Numbers.digits Utf8.has Utf8.follow Utf8.sequenceBy Utf8.table Utf8.leadBits Utf8.joined Utf8.codePoint Utf8.characterAt Strings.charactersFrom Strings.run Strings.endAfter Strings.escape Strings.twoDigits Strings.escaped Strings.decodedPiece Strings.decodedFrom Strings.decodeString Strings.badDigit Strings.isBad Strings.digitOr0 Strings.hexFrom Strings.decodeHex Strings.bytesOf quiet prepend readStrings
+unfolding parse readFile readers readLevel readPrefix readBlock readOperand readRound readStruct readComptime readElseIfs readFields readList readOn onOp onLevel readDeclarations readDeclaration readStatements readStatement readExpression begins on if bind try operatorOf lookup within isBlockLike push Numbers.nibble Numbers.digits Utf8.has Utf8.follow Utf8.sequenceBy Utf8.table Utf8.leadBits Utf8.joined Utf8.codePoint Utf8.characterAt Strings.charactersFrom Strings.endAfter Strings.escape Strings.twoDigits Strings.escaped Strings.decodedFrom Strings.decodeString Strings.badDigit Strings.isBad Strings.digitOr0 Strings.hexFrom Strings.decodeHex Strings.bytesOf quiet prepend readStrings
 computed depth xs = parse depth xs
 
 -- A token whose number and spelling don't matter.
@@ -188,6 +188,36 @@ p9 = refused 9 _ refl
 p10 : (t : Trees) → ¬ Derives file (constant (spelled Token.LooseHexStringLiteral "hex\"4\"" ∷ [])) [] t
 unfolding sign spelled computed
 p10 = refused 9 _ refl
+
+-- W7: `const a = "épinette";`, where `é` is C3 A9. The value has the bytes that stand between the quotes.
+abbrev spruce : List ℕ
+spruce = 0xC3 ∷ 0xA9 ∷ ascii "pinette"
+
+abbrev spruce-row : List RowToken
+spruce-row =
+    sign Token.Const ∷ token Token.Identifier (letter 2 97) ∷ sign Token.Equals
+    ∷ token Token.LooseStringLiteral (record { number = 6; spelling = 0x22 ∷ spruce ++ (0x22 ∷ []) }) ∷ sign Token.Semicolon ∷ []
+
+abbrev spruce-tree : Trees
+spruce-tree = branch Node.File 0 (branch Node.ConstDecl 0 (named (letter 2 97) ⊕ stringTree spruce) ⊕ none)
+
+accents : computed 5 spruce-row ≡ ok spruce-tree []
+unfolding sign computed
+accents = refl
+
+-- The same by the rules alone.
+accents-by-rules : Derives file spruce-row [] spruce-tree
+unfolding sign Strings.decodedFrom Strings.decodeString Strings.bytesOf quiet
+accents-by-rules =
+    Chart.file-rule
+    (Chart.declarations-more
+    (Chart.const-untyped (lower 8 0 (lit≤ tt) (Chart.tighter (Chart.unprefixed (Chart.standalone (Chart.string refl Chart.strings-end))))))
+    Chart.declarations-end)
+
+-- Behind a backslash `é` is an unknown escape, so there is no tree.
+accent-escaped : (t : Trees) → ¬ Derives file (constant (token Token.LooseStringLiteral (record { number = 6; spelling = 0x22 ∷ 0x5C ∷ 0xC3 ∷ 0xA9 ∷ 0x22 ∷ [] }) ∷ [])) [] t
+unfolding sign computed
+accent-escaped = refused 9 _ refl
 
 -- `0x1_F` is the number 31.
 hexadecimal : computed 5 (constant (spelled Token.HexLiteral "0x1_F" ∷ [])) ≡ ok (constantTree (leaf Node.NumLiteral (number 31))) []

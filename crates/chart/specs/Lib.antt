@@ -11,4 +11,5 @@ pub mod Sound
 pub mod Complete
 pub mod Errors
 pub mod Renumbered
+pub mod Verbatim
 pub mod Examples

@@ -6,14 +6,11 @@ use native.Mathlib.Nat.{mod-one}
 use native.Mathlib.Omega.{arith}
 use lib.ListN.{length, getD, set, take, drop, length-append, length-drop, take-append-drop}
 use lib.Seq.{length-take-le, take-at, drop-at}
+use Rattle.utf8.specs.Bytes.{AreBytes, are-bytes-append}
 use Rattle.literals.specs.Strings.{fours}
 use Rattle.values.specs.declared.Count.{Count}
 use Rattle.values.specs.declared.Count.the-variants.{Words, DontFit}
 use Rattle.words.specs.Parts.{part-whole, part-rest}
-
-abbrev pub Bytes : List ℕ → Type 0
-Bytes [] = Unit {0}
-Bytes (b ∷ bs) = (b < 256) × Bytes bs
 
 pub fours-length : (bs : List ℕ) → length (fours bs) ≡ (length bs + 3) / 4
 unfolding fours
@@ -35,7 +32,7 @@ joined n word b = word % unit n + b * unit n
 abbrev pub packed : List ℕ → List ℕ → List ℕ
 packed bs room = fours bs ++ drop (length (fours bs)) room
 
-pub packed-more : (bs room : List ℕ) (b : ℕ) → Bytes bs → length bs / 4 < length room
+pub packed-more : (bs room : List ℕ) (b : ℕ) → AreBytes bs → length bs / 4 < length room
     → set (packed bs room) (length bs / 4) (joined (length bs) (getD (packed bs room) (length bs / 4) 0) b) ≡ packed (bs ++ b ∷ []) room
 unfolding fours unit
 packed-more bs [] b p h = absurd (omega arith)
@@ -71,17 +68,13 @@ HeldBy lent at bs (Words n) vs = (n ≡ length bs) × (length (fours bs) ≤ len
 HeldBy lent at bs DontFit vs = length lent - (at + 1) < length (fours bs)
 
 pub record Held (lent : List ℕ) (at : ℕ) (bs : List ℕ) (c : Count) (vs : List ℕ) : Type 0 where
-  pub bytes : Bytes bs
+  pub bytes : AreBytes bs
   pub by : HeldBy lent at bs c vs
   pub long : length vs ≡ length lent
 
 pub held-first : (lent : List ℕ) (at : ℕ) → Held lent at [] (Words 0) lent
 unfolding fours
 held-first lent at = record { bytes = tt; by = (refl, omega arith, sym (take-append-drop (at + 1) lent)); long = refl }
-
-bytes-more : (bs : List ℕ) (b : ℕ) → Bytes bs → b < 256 → Bytes (bs ++ b ∷ [])
-bytes-more [] b p h = (h, tt)
-bytes-more (a ∷ bs) b p h = (p .0, bytes-more bs b (p .1) h)
 
 module _ (lent : List ℕ) (at : ℕ) (bs : List ℕ) (b : ℕ) (hb : b < 256) where
   -- One byte more takes at least as many words.
@@ -90,11 +83,11 @@ module _ (lent : List ℕ) (at : ℕ) (bs : List ℕ) (b : ℕ) (hb : b < 256) w
 
   module _ (vs vs′ : List ℕ) (l : length vs′ ≡ length vs) where
     pub held-still : Held lent at bs DontFit vs → Held lent at (bs ++ b ∷ []) DontFit vs′
-    held-still k = record { bytes = bytes-more bs b (k .bytes) hb; by = omega (arith, k .by, longer, fours-length bs); long = l ∙ k .long }
+    held-still k = record { bytes = are-bytes-append bs (b ∷ []) (k .bytes) (hb, tt); by = omega (arith, k .by, longer, fours-length bs); long = l ∙ k .long }
 
     module _ (n : ℕ) (k : Held lent at bs (Words n) vs) where
       pub held-none : length vs ≤ at → Held lent at (bs ++ b ∷ []) DontFit vs′
-      held-none h = record { bytes = bytes-more bs b (k .bytes) hb; by = omega (arith, k .long, longer); long = l ∙ k .long }
+      held-none h = record { bytes = are-bytes-append bs (b ∷ []) (k .bytes) (hb, tt); by = omega (arith, k .long, longer); long = l ∙ k .long }
 
       module _ (h : at < length vs) (c : Count) (room′ : List ℕ) (p : PutByte (take (length vs - (at + 1)) (drop (at + 1) vs)) n b c room′)
           (e : vs′ ≡ take (at + 1) vs ++ (room′ ++ drop (length vs - (at + 1)) (drop (at + 1) vs))) where
@@ -121,7 +114,7 @@ module _ (lent : List ℕ) (at : ℕ) (bs : List ℕ) (b : ℕ) (hb : b < 256) w
             )
 
         pub held-more : Held lent at (bs ++ b ∷ []) c vs′
-        held-more = record { bytes = bytes-more bs b (k .bytes) hb; by = step c p; long = l ∙ k .long }
+        held-more = record { bytes = are-bytes-append bs (b ∷ []) (k .bytes) (hb, tt); by = step c p; long = l ∙ k .long }
 
 -- What pushing a byte does, whatever was held.
 pub record PushByte (at b : ℕ) (c : Count) (vs : List ℕ) (c′ : Count) (vs′ : List ℕ) : Type 0 where

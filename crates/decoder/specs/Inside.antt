@@ -15,19 +15,16 @@ use Rattle.words.specs.Words.{tokenWord, tokenEnd}
 use Rattle.words.specs.Laws.{low-fits}
 use Rattle.lexer.specs.Lex.{spellingOf}
 use Rattle.literals.specs.Spelling.{span, wordAt, tokenStart, tokenSpan, covered, spelling}
-use Rattle.literals.specs.Strings.{inside, decodedFrom, decodeString, charactersFrom, hexFrom, decodeHex}
+use Rattle.literals.specs.Strings.{between, decodedFrom, decodeString, charactersFrom, hexFrom, decodeHex}
 use Rattle.decoder.specs.Chars.{events}
 use Rattle.decoder.specs.Hex.{hexEvents}
 use Rattle.spellings.specs.Spelled.{within, spelled, last-end}
 
-abbrev pub insideOf : ℕ → List ℕ → List ℕ
-insideOf opening s = take (length s - (opening + 1)) (drop opening s)
-
 module _ (opening : ℕ) (s : List ℕ) where
-  pub inside-none : length s ≤ opening → [] ≡ insideOf opening s
+  pub inside-none : length s ≤ opening → [] ≡ between opening s
   inside-none h = let e : length s - (opening + 1) ≡ 0 = omega arith in rw e
 
-  pub inside-some : take (length s - 1 - opening) (drop opening s) ≡ insideOf opening s
+  pub inside-some : take (length s - 1 - opening) (drop opening s) ≡ between opening s
   inside-some = let e : length s - 1 - opening ≡ length s - (opening + 1) = omega arith in rw e
 
 module _ (tokens : List ℕ) (n : ℕ) where
@@ -68,23 +65,23 @@ covered-short text s e = go (leb s e) (leb e (length text)) refl refl
 pub spelling-short : (text tokens : List ℕ) (n : ℕ) → length (spelling text tokens n) < 33554432
 spelling-short text tokens n = omega (arith, covered-short text (tokenStart tokens n) (tokenEnd (wordAt tokens n)), low-fits 25 (wordAt tokens n))
 
-module _ (text tokens : List ℕ) (n opening : ℕ) (source w : List ℕ) (start : ℕ) (es : source ≡ spellingOf text tokens n) (ew : w ≡ insideOf opening source) (et : start ≡ tokenStart tokens n) where
+module _ (text tokens : List ℕ) (n opening : ℕ) (source w : List ℕ) (start : ℕ) (es : source ≡ spellingOf text tokens n) (ew : w ≡ between opening source) (et : start ≡ tokenStart tokens n) where
   pub inside-fits : opening < 256 → start + opening + length w < 4294967296
   inside-fits h =
       omega (arith, start-fits tokens n, spelling-short text tokens n, ap length (es ∙ spelled text tokens n), ap length ew, length-take (length source - (opening + 1)) (drop opening source), length-drop opening source)
 
-  inside-same : charactersFrom (start + opening + 0) 0 (drop 0 w) ≡ inside opening (tokenStart tokens n) (spelling text tokens n)
-  inside-same = rw (add-zero, ew, es ∙ spelled text tokens n, et)
+  inside-same : {A : Type 0} (f : ℕ → List ℕ → A) → f (start + opening + 0) (drop 0 w) ≡ f (tokenStart tokens n + opening) (between opening (spelling text tokens n))
+  inside-same f = rw (add-zero, ew, es ∙ spelled text tokens n, et)
 
-pub string-same : (text tokens : List ℕ) (n : ℕ) (source w : List ℕ) (start : ℕ) → source ≡ spellingOf text tokens n → w ≡ insideOf 1 source → start ≡ tokenStart tokens n
+pub string-same : (text tokens : List ℕ) (n : ℕ) (source w : List ℕ) (start : ℕ) → source ≡ spellingOf text tokens n → w ≡ between 1 source → start ≡ tokenStart tokens n
     → events (start + 1) w 0 ≡ decodeString (tokenSpan tokens n) (spelling text tokens n)
 unfolding decodeString
-string-same text tokens n source w start es ew et = ap (decodedFrom 0) (inside-same text tokens n 1 source w start es ew et)
+string-same text tokens n source w start es ew et = inside-same text tokens n 1 source w start es ew et (λ at s. decodedFrom at 0 s)
 
-pub hex-same : (text tokens : List ℕ) (n : ℕ) (source w : List ℕ) (start stop : ℕ) → source ≡ spellingOf text tokens n → w ≡ insideOf 4 source → start ≡ tokenStart tokens n → stop ≡ tokenEnd (wordAt tokens n)
+pub hex-same : (text tokens : List ℕ) (n : ℕ) (source w : List ℕ) (start stop : ℕ) → source ≡ spellingOf text tokens n → w ≡ between 4 source → start ≡ tokenStart tokens n → stop ≡ tokenEnd (wordAt tokens n)
     → hexEvents (span start stop) false (start + 4) w 0 ≡ decodeHex (tokenSpan tokens n) (spelling text tokens n)
 unfolding decodeHex
-hex-same text tokens n source w start stop es ew et ee = ap (hexFrom (span start stop) false) (inside-same text tokens n 4 source w start es ew et) ∙ rw (et, ee)
+hex-same text tokens n source w start stop es ew et ee = inside-same text tokens n 4 source w start es ew et (λ at s. hexFrom (span start stop) false (charactersFrom at 0 s)) ∙ rw (et, ee)
 
 module _ (tokens : List ℕ) (n : ℕ) where
   pub end-past : length tokens ≤ n → 0 ≡ tokenEnd (wordAt tokens n)

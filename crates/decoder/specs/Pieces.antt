@@ -1,19 +1,18 @@
--- The pieces that decoding cuts characters into, by case.
+-- What a byte, or a backslash and what it takes, decodes to, by case.
 use mathlib.Core.Path.{_≡_, refl, _∙_}
 use mathlib.Core.Option.{none, some}
 use mathlib.Core.List.{List, [], _∷_}
 use Prim.Native.Nat.{ℕ, _+_, _*_, _≤_, _<_}
 use native.Mathlib.Omega.{arith}
-use native.Mathlib.Numerals.{add-one}
-use borrow.Author.Tests.{lt-ltb, le-ltb, eq-eqb, ne-eqb}
-use lib.ListN.{length}
+use borrow.Author.Tests.{eq-eqb, ne-eqb}
+use lib.ListN.{length, getD}
 use Rattle.words.specs.Report
 use Rattle.literals.specs.Spelling.{span}
 use Rattle.literals.specs.Numbers.{nibble}
-use Rattle.literals.specs.Strings.{Event, byte, report, Char, char, run, endAfter, piece, escape, twoDigits, escaped, decodedPiece, decodedFrom}
+use Rattle.literals.specs.Strings.{Event, byte, report, Char, char, endAfter, piece, escape, twoDigits, escaped}
 use Rattle.decoder.specs.declared.Event as code
 use Rattle.decoder.specs.declared.Event.the-variants.{Byte, Report}
-use Rattle.decoder.specs.Chars.{chars, events, chars-over, Standing}
+use Rattle.decoder.specs.Chars.{chars, events, chars-over, Standing, event-escape}
 
 abbrev pub eventOf : code.Event → Event
 eventOf (Byte b) = byte b
@@ -30,155 +29,85 @@ pub record Cut (base : ℕ) (w : List ℕ) (i : ℕ) (e : Event) (next : ℕ) : 
   pub within : next ≤ length w
   pub small : Small e
 
--- A run of characters that are not ASCII, from byte `i` on, ends at byte `next`.
-pub record Run (w : List ℕ) (i next : ℕ) : Type 0 where
-  pub end : (base : ℕ) → endAfter (base + i) (run (chars base w i)) (chars base w i) ≡ base + next
-  pub rest : (base : ℕ) → decodedFrom (run (chars base w i)) (chars base w i) ≡ events base w next
-  pub on : i ≤ next
-  pub within : next ≤ length w
-
--- Runs that end alike.
-pub record Runs (w : List ℕ) (i j : ℕ) : Type 0 where
-  pub end : (base : ℕ) → endAfter (base + i) (run (chars base w i)) (chars base w i) ≡ endAfter (base + j) (run (chars base w j)) (chars base w j)
-  pub rest : (base : ℕ) → decodedFrom (run (chars base w i)) (chars base w i) ≡ decodedFrom (run (chars base w j)) (chars base w j)
-  pub on : i ≤ j
-  pub within : j ≤ length w
-
-module _ (w : List ℕ) (i : ℕ) where
-  module _ (j : ℕ) (t : Runs w i j) where
-    pub run-over : length w ≤ j → Run w i j
-    unfolding run endAfter
-    run-over h =
-        record {
-          end = λ base. t .end base ∙ rw (chars-over base w j h);
-          rest = λ base. t .rest base ∙ rw (chars-over base w j h);
-          on = t .on;
-          within = t .within;
-        }
-
-    module _ (code end : ℕ) (st : Standing w j code end) where
-      pub run-stops : code < 128 → Run w i j
-      unfolding run endAfter
-      run-stops h =
-          record {
-            end = λ base. t .end base ∙ rw (st .is base, lt-ltb code 128 h, run);
-            rest = λ base. t .rest base ∙ rw (st .is base, lt-ltb code 128 h, run);
-            on = t .on;
-            within = t .within;
-          }
-
-      pub runs-next : 128 ≤ code → Runs w i end
-      unfolding run endAfter decodedFrom
-      runs-next h =
-          record {
-            end = λ base. t .end base ∙ rw (st .is base, le-ltb code 128 h, run, add-one);
-            rest = λ base. t .rest base ∙ rw (st .is base, le-ltb code 128 h, run, add-one);
-            on = omega (arith, t .on, st .on);
-            within = st .within;
-          }
-
--- The cases of a piece that begins with the character at byte `i`.
-module _ (base : ℕ) (w : List ℕ) (i code end : ℕ) (st : Standing w i code end) where
-  abbrev c : Char
-  c = char code (base + i) (base + end)
-
-  abbrev cs : List Char
-  cs = chars base w end
-
-  cut : (e : Event) (n next : ℕ) → decodedPiece c cs ≡ piece e n → decodedFrom n cs ≡ events base w next → end ≤ next → next ≤ length w → Small e → Cut base w i e next
-  unfolding decodedFrom
-  cut e n next p r h g s = record { is = rw (st .is base, p, r); on = omega (arith, st .on); within = g; small = s }
-
-  pub cut-plain : code < 128 → (code ≡ 92 → ⊥) → Cut base w i (byte code) end
-  unfolding decodedPiece
-  cut-plain h g = cut (byte code) 0 end (rw (lt-ltb code 128 h, ne-eqb code 92 g, decodedPiece)) refl (omega arith) (st .within) (omega arith)
-
-  pub cut-run : 128 ≤ code → (next : ℕ) → Run w end next → Cut base w i (report Report.NonAscii 0 (span (base + i) (base + next))) next
-  unfolding decodedPiece
-  cut-run h next r =
-      cut (report Report.NonAscii 0 (span (base + i) (base + next))) (run cs) next
-      (rw (le-ltb code 128 h, decodedPiece, r .end base)) (r .rest base) (r .on) (r .within) tt
-
-  module _ (slash : code ≡ 92) where
-    escapes : decodedPiece c cs ≡ escaped c cs
-    unfolding decodedPiece
-    escapes = rw (lt-ltb code 128 (omega arith), eq-eqb code 92 slash, decodedPiece)
-
-    pub cut-end : length w ≤ end → Cut base w i (report Report.BackslashAtEnd 0 (span (base + i) (base + end))) end
-    unfolding escaped endAfter
-    cut-end h = cut _ 0 end (escapes ∙ rw (chars-over base w end h)) refl (omega arith) (st .within) tt
-
-    module _ (code₂ end₂ : ℕ) (st₂ : Standing w end code₂ end₂) where
-      abbrev bad : ℕ → Event
-      bad next = report Report.BadHexEscape 0 (span (base + i) (base + next))
-
-      pub cut-escape : (b : ℕ) → some b ≡ escape code₂ → b < 256 → Cut base w i (byte b) end₂
-      unfolding escaped decodedFrom
-      cut-escape b e h = cut (byte b) 1 end₂ (escapes ∙ rw (st₂ .is base, ← e, escaped)) (rw (st₂ .is base)) (omega (arith, st₂ .on)) (st₂ .within) h
-
-      pub cut-unknown : none ≡ escape code₂ → (code₂ ≡ 120 → ⊥) → Cut base w i (report Report.UnknownEscape code₂ (span (base + i) (base + end₂))) end₂
-      unfolding escaped endAfter decodedFrom
-      cut-unknown e h = cut _ 1 end₂ (escapes ∙ rw (st₂ .is base, ← e, ne-eqb code₂ 120 h, escaped)) (rw (st₂ .is base)) (omega (arith, st₂ .on)) (st₂ .within) tt
-
-      module _ (none-such : none ≡ escape code₂) (x : code₂ ≡ 120) where
-        abbrev cs₂ : List Char
-        cs₂ = chars base w end₂
-
-        -- Two digits after it, or none.
-        digit-pair : (b : ℕ) → twoDigits cs₂ ≡ some b → escaped c cs ≡ piece (byte b) 3
-        unfolding escaped
-        digit-pair b e = rw (st₂ .is base, ← none-such, eq-eqb code₂ 120 x, e, escaped)
-
-        no-pair : (next : ℕ) → twoDigits cs₂ ≡ none → endAfter (base + end₂) 2 cs₂ ≡ base + next → escaped c cs ≡ piece (bad next) 3
-        unfolding escaped endAfter
-        no-pair next e f = rw (st₂ .is base, ← none-such, eq-eqb code₂ 120 x, e, escaped, f)
-
-        cut-bad : (next : ℕ) → twoDigits cs₂ ≡ none → endAfter (base + end₂) 2 cs₂ ≡ base + next → decodedFrom 2 cs₂ ≡ events base w next → end₂ ≤ next → next ≤ length w
-            → Cut base w i (bad next) next
-        unfolding decodedFrom
-        cut-bad next e f r h g = cut (bad next) 3 next (escapes ∙ no-pair next e f) (rw (st₂ .is base) r) (omega (arith, st₂ .on)) g tt
-
-        pub cut-x : length w ≤ end₂ → Cut base w i (bad end₂) end₂
-        unfolding twoDigits endAfter decodedFrom
-        cut-x h = cut-bad end₂ (rw (chars-over base w end₂ h)) (rw (chars-over base w end₂ h)) (rw (chars-over base w end₂ h)) (omega arith) (st₂ .within)
-
-        module _ (code₃ end₃ : ℕ) (st₃ : Standing w end₂ code₃ end₃) where
-          pub cut-x-one : length w ≤ end₃ → Cut base w i (bad end₃) end₃
-          unfolding twoDigits endAfter decodedFrom
-          cut-x-one h =
-              let e : cs₂ ≡ char code₃ (base + end₂) (base + end₃) ∷ [] = st₃ .is base ∙ rw (chars-over base w end₃ h) in
-              cut-bad end₃ (rw e) (rw e) (rw (e, chars-over base w end₃ h)) (omega (arith, st₃ .on)) (st₃ .within)
-
-          module _ (code₄ end₄ : ℕ) (st₄ : Standing w end₃ code₄ end₄) where
-            two : cs₂ ≡ char code₃ (base + end₂) (base + end₃) ∷ char code₄ (base + end₃) (base + end₄) ∷ chars base w end₄
-            two = st₃ .is base ∙ rw (st₄ .is base)
-
-            wrong : twoDigits cs₂ ≡ none → Cut base w i (bad end₄) end₄
-            unfolding endAfter decodedFrom
-            wrong e = cut-bad end₄ e (rw two) (rw two) (omega (arith, st₃ .on, st₄ .on)) (st₄ .within)
-
-            pub cut-no-digit : none ≡ nibble code₃ → Cut base w i (bad end₄) end₄
-            unfolding twoDigits
-            cut-no-digit e = wrong (rw (two, ← e, twoDigits))
-
-            module _ (h : ℕ) (eh : some h ≡ nibble code₃) where
-              pub cut-one-digit : none ≡ nibble code₄ → Cut base w i (bad end₄) end₄
-              unfolding twoDigits
-              cut-one-digit e = wrong (rw (two, ← eh, ← e, twoDigits))
-
-              pub cut-digits : (l : ℕ) → some l ≡ nibble code₄ → h < 16 → l < 16 → Cut base w i (byte (16 * h + l)) end₄
-              unfolding twoDigits decodedFrom
-              cut-digits l el hh hl =
-                  cut (byte (16 * h + l)) 3 end₄ (escapes ∙ digit-pair (16 * h + l) (rw (two, ← eh, ← el, twoDigits))) (rw (st₂ .is base, two)) (omega (arith, st₂ .on, st₃ .on, st₄ .on)) (st₄ .within) (omega arith)
-
--- A backslash stands at byte `i`, and the next character at byte `end`; or a backslash and an x.
-pub record Slash (w : List ℕ) (i end : ℕ) : Type 0 where
-  pub at : Standing w i 92 end
+-- A backslash stands at byte `i`; or a backslash and an x, behind which the next character stands at byte `end`.
+pub record Slash (w : List ℕ) (i : ℕ) : Type 0 where
+  pub is : getD w i 0 ≡ 92
+  pub within : i < length w
 
 pub record SlashX (w : List ℕ) (i end : ℕ) : Type 0 where
-  pub middle : ℕ
-  pub at : Standing w i 92 middle
-  pub then : Standing w middle 120 end
+  pub at : Slash w i
+  pub then : Standing w (i + 1) 120 end
+
+-- The cases of a piece that begins with the backslash at byte `i`.
+module _ (base : ℕ) (w : List ℕ) (i : ℕ) (slash : Slash w i) where
+  cut : (e : Event) (next : ℕ) → escaped (base + i) (chars base w (i + 1)) ≡ piece e (base + next) → i < next → next ≤ length w → Small e → Cut base w i e next
+  cut e next p h g s = record { is = event-escape base w i (slash .within) (slash .is) e next p h; on = h; within = g; small = s }
+
+  pub cut-end : length w ≤ i + 1 → Cut base w i (report Report.BackslashAtEnd 0 (span (base + i) (base + (i + 1)))) (i + 1)
+  unfolding escaped
+  cut-end h =
+      let e : base + i + 1 ≡ base + (i + 1) = omega arith in
+      cut _ (i + 1) (rw (chars-over base w (i + 1) h, e)) (omega arith) (omega (arith, slash .within)) tt
+
+  module _ (code end : ℕ) (st : Standing w (i + 1) code end) where
+    abbrev bad : ℕ → Event
+    bad next = report Report.BadHexEscape 0 (span (base + i) (base + next))
+
+    pub cut-escape : (b : ℕ) → some b ≡ escape code → b < 256 → Cut base w i (byte b) end
+    unfolding escaped
+    cut-escape b e h = cut (byte b) end (rw (st .is base, ← e, escaped)) (omega (arith, st .on)) (st .within) h
+
+    pub cut-unknown : none ≡ escape code → (code ≡ 120 → ⊥) → Cut base w i (report Report.UnknownEscape code (span (base + i) (base + end))) end
+    unfolding escaped
+    cut-unknown e h = cut _ end (rw (st .is base, ← e, ne-eqb code 120 h, escaped)) (omega (arith, st .on)) (st .within) tt
+
+    module _ (none-such : none ≡ escape code) (x : code ≡ 120) where
+      abbrev cs : List Char
+      cs = chars base w end
+
+      -- Two digits after it, or none.
+      cut-pair : (b next : ℕ) → twoDigits cs ≡ some b → endAfter (base + end) 2 cs ≡ base + next → end ≤ next → next ≤ length w → b < 256 → Cut base w i (byte b) next
+      unfolding escaped
+      cut-pair b next e f h g s = cut (byte b) next (rw (st .is base, ← none-such, eq-eqb code 120 x, e, escaped, f)) (omega (arith, st .on)) g s
+
+      cut-bad : (next : ℕ) → twoDigits cs ≡ none → endAfter (base + end) 2 cs ≡ base + next → end ≤ next → next ≤ length w → Cut base w i (bad next) next
+      unfolding escaped
+      cut-bad next e f h g = cut (bad next) next (rw (st .is base, ← none-such, eq-eqb code 120 x, e, escaped, f)) (omega (arith, st .on)) g tt
+
+      pub cut-x : length w ≤ end → Cut base w i (bad end) end
+      unfolding twoDigits endAfter
+      cut-x h = cut-bad end (rw (chars-over base w end h)) (rw (chars-over base w end h)) (omega arith) (st .within)
+
+      module _ (code₃ end₃ : ℕ) (st₃ : Standing w end code₃ end₃) where
+        pub cut-x-one : length w ≤ end₃ → Cut base w i (bad end₃) end₃
+        unfolding twoDigits endAfter
+        cut-x-one h =
+            let e : cs ≡ char code₃ (base + end) (base + end₃) ∷ [] = st₃ .is base ∙ rw (chars-over base w end₃ h) in
+            cut-bad end₃ (rw e) (rw e) (omega (arith, st₃ .on)) (st₃ .within)
+
+        module _ (code₄ end₄ : ℕ) (st₄ : Standing w end₃ code₄ end₄) where
+          two : cs ≡ char code₃ (base + end) (base + end₃) ∷ char code₄ (base + end₃) (base + end₄) ∷ chars base w end₄
+          two = st₃ .is base ∙ rw (st₄ .is base)
+
+          ends : endAfter (base + end) 2 cs ≡ base + end₄
+          unfolding endAfter
+          ends = rw two
+
+          wrong : twoDigits cs ≡ none → Cut base w i (bad end₄) end₄
+          wrong e = cut-bad end₄ e ends (omega (arith, st₃ .on, st₄ .on)) (st₄ .within)
+
+          pub cut-no-digit : none ≡ nibble code₃ → Cut base w i (bad end₄) end₄
+          unfolding twoDigits
+          cut-no-digit e = wrong (rw (two, ← e, twoDigits))
+
+          module _ (h : ℕ) (eh : some h ≡ nibble code₃) where
+            pub cut-one-digit : none ≡ nibble code₄ → Cut base w i (bad end₄) end₄
+            unfolding twoDigits
+            cut-one-digit e = wrong (rw (two, ← eh, ← e, twoDigits))
+
+            pub cut-digits : (l : ℕ) → some l ≡ nibble code₄ → h < 16 → l < 16 → Cut base w i (byte (16 * h + l)) end₄
+            unfolding twoDigits
+            cut-digits l el hh hl = cut-pair (16 * h + l) end₄ (rw (two, ← eh, ← el, twoDigits)) ends (omega (arith, st₃ .on, st₄ .on)) (st₄ .within) (omega arith)
 
 -- What a function answers that cuts a piece off.
 abbrev pub Cuts : ℕ → List ℕ → ℕ → code.Event → ℕ → Type 0

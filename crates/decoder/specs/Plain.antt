@@ -1,12 +1,12 @@
--- Plain bytes of a string, ASCII and no backslash: each stands for itself, and four of them fill a word.
+-- Plain bytes of a string, those that are no backslash: each stands for itself, and four of them fill a word.
 use mathlib.Core.Path.{_≡_, refl, sym, _∙_, ap}
 use mathlib.Core.Bool.{Bool, true, false, not}
 use mathlib.Core.List.{List, [], _∷_, _++_, append-nil, append-assoc}
 use Prim.Native.Nat.{ℕ, zero, suc, _+_, _*_, _/_, _%_, _≤_, _<_}
 use native.Mathlib.Omega.{arith}
 use lib.ListN.{length, getD, set, take, drop, length-append, length-drop, length-set}
-use lib.Seq.{drop-cons, length-take-le}
-use Rattle.utf8.specs.Laws.{ascii}
+use lib.Seq.{length-take-le}
+use Rattle.utf8.specs.Bytes.{AreBytes, are-bytes-append}
 use Rattle.literals.specs.Strings.{Event, byte, fours, bytesOf}
 use Rattle.definition.specs.Prog.{Memory, memory}
 use Rattle.definition.specs.Strings.{emitEvents}
@@ -14,15 +14,15 @@ use Rattle.reading.specs.declared.Reading.{Reading}
 use Rattle.reading.specs.Does.{gives}
 use Rattle.values.specs.declared.Count.{Count}
 use Rattle.values.specs.declared.Count.the-variants.{Words}
-use Rattle.decoder.specs.Chars.{events, Standing, standing-is}
+use Rattle.decoder.specs.Chars.{events, event-byte}
 use Rattle.decoder.specs.declared.Event as code
 use Rattle.decoder.specs.declared.Event.the-variants.{Byte}
-use Rattle.decoder.specs.Pieces.{Cut, Cuts, cut-plain}
-use Rattle.decoder.specs.Fours.{Bytes, packed, Held, PushByte, fours-length}
+use Rattle.decoder.specs.Pieces.{Cut, Cuts}
+use Rattle.decoder.specs.Fours.{packed, Held, PushByte, fours-length}
 use Rattle.decoder.specs.Decodes.{Decodes, decodes-then, Walk, walk-on}
 
 pub record Plain (b : ℕ) : Type 0 where
-  pub ascii : b < 128
+  pub small : b < 256
   pub other : b ≡ 92 → ⊥
 
 pub record Quad (a b c d : ℕ) : Type 0 where
@@ -41,14 +41,10 @@ untold e =
     let z : _≡_ {A = ℕ} 0 1 = cc in
     absurd (omega arith)
 
--- ---- a plain byte is a character, and a byte of the value
+-- ---- a plain byte is a byte of the value
 
-module _ (w : List ℕ) (i : ℕ) (h : i < length w) where
-  pub plain-standing : getD w i 0 < 128 → Standing w i (getD w i 0) (i + 1)
-  plain-standing p = standing-is w i h (getD w i 0) 1 (rw (drop-cons w i 0 h) (ascii (getD w i 0) (drop (suc i) w) p))
-
-  pub plain-cut : (base : ℕ) → Plain (getD w i 0) → Cut base w i (byte (getD w i 0)) (i + 1)
-  plain-cut base p = cut-plain base w i (getD w i 0) (i + 1) (plain-standing (p .ascii)) (p .ascii) (p .other)
+pub plain-cut : (w : List ℕ) (i : ℕ) → i < length w → (base : ℕ) → Plain (getD w i 0) → Cut base w i (byte (getD w i 0)) (i + 1)
+plain-cut w i h base p = record { is = event-byte base w i h (p .other); on = omega arith; within = omega arith; small = p .small }
 
 plain-event : (base : ℕ) (w : List ℕ) (i j : ℕ) → j ≡ i + 1 → i < length w → Plain (getD w i 0) → events base w i ≡ byte (getD w i 0) ∷ events base w j
 plain-event base w i j e h p = plain-cut w i h base p .is ∙ ap (λ (k : ℕ). byte (getD w i 0) ∷ events base w k) (sym e)
@@ -87,10 +83,6 @@ set-append-add [] ys k n v e =
 set-append-add (x ∷ xs) ys zero n v e = absurd (omega arith)
 set-append-add (x ∷ xs) ys (suc k) n v e = ap (λ (l : List ℕ). x ∷ l) (set-append-add xs ys k n v (omega arith))
 
-bytes-append : (bs cs : List ℕ) → Bytes bs → Bytes cs → Bytes (bs ++ cs)
-bytes-append [] cs p q = q
-bytes-append (b ∷ bs) cs p q = (p .0, bytes-append bs cs (p .1) q)
-
 module _ (a b c d : ℕ) where
   abbrev quad : List ℕ
   quad = a ∷ b ∷ c ∷ d ∷ []
@@ -107,7 +99,7 @@ module _ (a b c d : ℕ) where
       let q : n / 4 ≡ suc (length s / 4) = omega arith in
       rw q (ap (λ (l : List ℕ). word x x₁ x₂ x₃ ∷ l) (packed-four s room (omega arith) (omega arith)))
 
-  pub held-four : (lent : List ℕ) (at : ℕ) (bs vs : List ℕ) (n : ℕ) → Bytes quad → Held lent at bs (Words n) vs → n % 4 ≡ 0 → at + 1 + n / 4 < length vs
+  pub held-four : (lent : List ℕ) (at : ℕ) (bs vs : List ℕ) (n : ℕ) → AreBytes quad → Held lent at bs (Words n) vs → n % 4 ≡ 0 → at + 1 + n / 4 < length vs
       → Held lent at (bs ++ quad) (Words (n + 4)) (set vs (at + 1 + n / 4) (word a b c d))
   held-four lent at bs vs n q k m h =
       let en : n ≡ length bs = k .by .0 in
@@ -116,7 +108,7 @@ module _ (a b c d : ℕ) where
       let fit : length bs / 4 < length (drop (at + 1) lent) = omega (arith, k .long, length-drop (at + 1) lent) in
       let place : at + 1 + n / 4 ≡ length (take (at + 1) lent) + length bs / 4 = omega arith in
       record {
-        bytes = bytes-append bs quad (k .bytes) q;
+        bytes = are-bytes-append bs quad (k .bytes) q;
         by = (
           omega arith,
           omega (arith, fours-length (bs ++ quad), fit, length-drop (at + 1) lent),
@@ -192,7 +184,7 @@ module _ (base : ℕ) (w : List ℕ) (i at : ℕ) (c : Count) (vs : List ℕ) wh
           within = h;
           holds = λ lent bs k.
               rw (← append-assoc) (held-four (getD w j 0) (getD w (j + 1) 0) (getD w (j + 2) 0) (getD w (j + 3) 0) lent at (bs ++ t .past) vs₁ n
-              (omega (arith, q .first .ascii), (omega (arith, q .second .ascii), (omega (arith, q .third .ascii), (omega (arith, q .fourth .ascii), tt)))) (t .holds lent bs k) m f);
+              (q .first .small, (q .second .small, (q .third .small, (q .fourth .small, tt)))) (t .holds lent bs k) m f);
           long = length-set vs₁ (at + 1 + n / 4) (word (getD w j 0) (getD w (j + 1) 0) (getD w (j + 2) 0) (getD w (j + 3) 0)) ∙ t .long;
         }
 

@@ -1,6 +1,6 @@
 // The bytes of a string, four to a word, as they come.
 ghost use mathlib.Core.Path.{_≡_};
-ghost use mathlib.Core.Bool.{true};
+ghost use mathlib.Core.Bool.{true, false};
 ghost use Prim.Native.Nat.{ℕ, _+_, _*_, _/_, _%_, _≤_, _<_};
 ghost use lib.ListN.{length};
 ghost use Rattle.values.specs.declared.Count.the-variants.{Words};
@@ -62,13 +62,10 @@ pub(crate) struct Filled {
     pub next: usize,
 }
 
-// A byte that stands for itself: ASCII, and no backslash.
+// A byte that stands for itself: no backslash.
 pub(crate) fn plain(b: u8) -> bool
-    ensures { λ r. ⌜ (r ≡ true → Plain b) ⌝ }
+    ensures { λ r. ⌜ (r ≡ true → Plain b) × (r ≡ false → b ≡ 92) ⌝ }
 {
-    if 128 <= b {
-        return false;
-    }
     if b == 92 {
         return false;
     }

@@ -6,16 +6,15 @@ ghost use Prim.Native.Nat.{_+_, _/_, _≤_, _<_};
 ghost use lib.ListN.{length};
 ghost use Rattle.literals.specs.Spelling.{span, wordAt, tokenStart, tokenSpan, spelling};
 ghost use Rattle.words.specs.Words.{tokenEnd};
-ghost use Rattle.literals.specs.Strings.{report, escape, char, badDigit, isBad, decodeString, decodeHex};
+ghost use Rattle.literals.specs.Strings.{report, escape, char, badDigit, isBad, between, decodeString, decodeHex};
 ghost use Rattle.values.specs.Digits.{option, Under};
 ghost use Rattle.definition.specs.Prog.{memory};
 ghost use Rattle.decoder.specs.Chars.{Standing, events};
 ghost use Rattle.decoder.specs.Decodes.{Decodes};
 ghost use Rattle.decoder.specs.Plain.{Stretch};
 ghost use Rattle.decoder.specs.Hex.{Digit, Turn, hexEvents};
-ghost use Rattle.decoder.specs.Inside.{insideOf};
 ghost use Rattle.decoder.specs.StringValue.{StringKept};
-ghost use Rattle.decoder.specs.Pieces.{eventOf, Small, Cuts, Run, Slash, SlashX};
+ghost use Rattle.decoder.specs.Pieces.{eventOf, Small, Cuts, Slash, SlashX};
 
 mod bytes;
 
@@ -70,22 +69,6 @@ fn char_at(w: &[u8], i: usize) -> Char
             end: i + 1,
         },
     }
-}
-
-// Where the characters from byte `i` on that are not ASCII end.
-fn run_end(w: &[u8], i: usize) -> usize
-    requires { ⌜ i ≤ length (now w) ⌝ }
-    ensures { λ r. ⌜ Run (now (w .entry)) i r ⌝ }
-{
-    let mut j = i;
-    while j < w.len() {
-        let c = char_at(w, j);
-        if c.code < 128 {
-            return j;
-        }
-        j = c.end;
-    }
-    j
 }
 
 // A report from byte `i` up to byte `next`, as a piece.
@@ -156,11 +139,12 @@ fn hex_escape(w: &[u8], base: usize, i: usize, j: usize) -> Piece
     }
 }
 
-// After a backslash, which stands at byte `i`: what it and the character at byte `j` stand for.
-fn escaped(w: &[u8], base: usize, i: usize, j: usize) -> Piece
-    requires { ⌜ (base + length (now w) < 4294967296) × Slash (now w) i j ⌝ }
+// What the backslash at byte `i` and the characters that it takes stand for.
+fn escaped(w: &[u8], base: usize, i: usize) -> Piece
+    requires { ⌜ (base + length (now w) < 4294967296) × Slash (now w) i ⌝ }
     ensures { λ r. ⌜ Cuts base (now (w .entry)) i (r .event) (r .next) ⌝ }
 {
+    let j = i + 1;
     if w.len() <= j {
         return reported(report::BACKSLASH_AT_END, 0, base, i, j);
     }
@@ -181,8 +165,7 @@ fn escaped(w: &[u8], base: usize, i: usize, j: usize) -> Piece
     }
 }
 
-// What one turn of `decode_string_token` does with the characters from byte `i` on, of the bytes `w` that begin at the
-// offset `base`.
+// What stands at byte `i`, of the bytes `w` that begin at the offset `base`: a byte that stands for itself, or a backslash with what it takes.
 fn piece_at(w: &[u8], base: usize, i: usize) -> Piece
     requires { ⌜ (base + length (now w) < 4294967296) × (i < length (now w)) ⌝ }
     ensures { λ r. ⌜ Cuts base (now (w .entry)) i (r .event) (r .next) ⌝ }
@@ -192,18 +175,7 @@ fn piece_at(w: &[u8], base: usize, i: usize) -> Piece
         let event = Event::Byte(b as u32);
         return Piece { event, next: i + 1 };
     }
-    let c = char_at(w, i);
-    let code = c.code;
-    let next = c.end;
-    if 128 <= code {
-        let end = run_end(w, next);
-        return reported(report::NON_ASCII, 0, base, i, end);
-    }
-    if code == 92 {
-        return escaped(w, base, i, next);
-    }
-    let event = Event::Byte(code);
-    Piece { event, next }
+    escaped(w, base, i)
 }
 
 // A character of a hex string: its code point, what it counts as a digit, whether it is none, and where the next one stands.
@@ -336,7 +308,7 @@ fn decode_bytes(
     }
 }
 
-// The characters between the quotes of a string token: bytes of the value, and what is reported between them.
+// What stands between the quotes of a string token: bytes of the value, and what is reported between them.
 fn decode_pieces(
     d: u32,
     s: Decoded,
@@ -375,7 +347,7 @@ fn decode_pieces(
 // What stands between the quotes of a token, of which `opening` bytes stand before them.
 fn inside<'a>(source: &'a [u8], opening: usize) -> &'a [u8]
     requires { ⌜ opening < 256 ⌝ }
-    ensures { λ r. ⌜ now r ≡ insideOf opening (now (source .entry)) ⌝ }
+    ensures { λ r. ⌜ now r ≡ between opening (now (source .entry)) ⌝ }
 {
     if source.len() <= opening {
         return &source[0..0];

@@ -13,7 +13,7 @@ use Rattle.definition.specs.Statements.{parseBlock}
 use Rattle.definition.specs.Declarations.{parseFile}
 use Rattle.definition.specs.Parse.{maxDepth, readers, tokenLimit, start, zeros, parsedTo, parsedWithin, parsed}
 use Rattle.definition.specs.Mono.{After, ran, halted, Steady, mono, steady}
-use Rattle.definition.specs.Proper.{Proper, proper-give, thens, branches, loops, names, names-later, proper-peek, proper-pass, proper-position, proper-here, proper-before, proper-spelling, proper-marked, proper-emit, proper-emitAndMark, proper-alloc, proper-closeAt, proper-closeAtStart, proper-setKind, proper-link, proper-kindOf, proper-value, proper-enterExpr, proper-enterBlock, tryParseExprMinBp-proper, parseBlock-proper, parseFile-proper}
+use Rattle.definition.specs.Proper.{Proper, proper-give, thens, branches, loops, names, names-later, proper-peek, proper-pass, proper-position, proper-here, proper-before, proper-spelling, proper-marked, emits, emits-marked, proper-alloc, proper-closeAt, proper-closeAtStart, proper-setKind, proper-link, proper-kindOf, proper-value, proper-enterExpr, proper-enterBlock, tryParseExprMinBp-proper, parseBlock-proper, parseFile-proper}
 use Rattle.definition.specs.Progress.{Holds, yields, halts, both, isAgain, Forward, Moves, forward}
 
 -- Where the cursor stands after a program, seen from before it.
@@ -154,8 +154,8 @@ module _ (text tokens : List ℕ) (spent : (S : Type 0) → S → State → Memo
     agree proper-before = record { is = λ s m w. refl }
     agree proper-spelling = record { is = λ s m w. refl }
     agree proper-marked = record { is = λ s m w. refl }
-    agree proper-emit = record { is = λ s m w. refl }
-    agree proper-emitAndMark = record { is = λ s m w. refl }
+    agree (emits h) = record { is = λ s m w. refl }
+    agree (emits-marked h) = record { is = λ s m w. refl }
     agree proper-alloc = record { is = λ s m w. refl }
     agree proper-closeAt = record { is = λ s m w. refl }
     agree proper-closeAtStart = record { is = λ s m w. refl }

@@ -270,7 +270,7 @@ same-counted {counts} {counts′} more more′ p p′ f f′ =
     let c : counts ≡ counts′ = cc in
     (c, sym (counted-longer more f) ∙ (ap (λ x. counted counts (x .words)) (sym p ∙ p′) ∙ (rw c (counted-longer more′ f′))))
 
-zero-at : (n i : ℕ) → getD {A = ℕ} (replicate n 0) i 0 ≡ 0
+pub zero-at : (n i : ℕ) → getD {A = ℕ} (replicate n 0) i 0 ≡ 0
 zero-at zero i = refl
 zero-at (suc n) zero = refl
 zero-at (suc n) (suc i) = zero-at n i

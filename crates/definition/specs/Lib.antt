@@ -14,6 +14,7 @@ pub mod Proper
 pub mod Bound
 pub mod Quiet
 pub mod Lengths
+pub mod Reserved
 pub mod Local
 pub mod Abstract
 pub mod Encodes

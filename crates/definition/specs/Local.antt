@@ -32,7 +32,7 @@ use Rattle.definition.specs.Mono.{After, ran, halted, Mono, Steady, mono
 use Rattle.definition.specs.Progress as Progress
 use Rattle.definition.specs.Progress.{Holds, yields, halts, both, Forward, forward}
 use Rattle.definition.specs.Bound.{bound-enough}
-use Rattle.definition.specs.Proper.{Proper, proper-give, thens, branches, loops, names, names-later, proper-peek, proper-pass, proper-position, proper-here, proper-before, proper-spelling, proper-marked, proper-emit, proper-emitAndMark, proper-alloc, proper-closeAt, proper-closeAtStart, proper-setKind, proper-link, proper-kindOf, proper-value, proper-enterExpr, proper-enterBlock, Just, passes, stays, tryParseExprMinBp-proper, parseBlock-proper, parseFile-proper}
+use Rattle.definition.specs.Proper.{Proper, proper-give, thens, branches, loops, names, names-later, proper-peek, proper-pass, proper-position, proper-here, proper-before, proper-spelling, proper-marked, emits, emits-marked, proper-alloc, proper-closeAt, proper-closeAtStart, proper-setKind, proper-link, proper-kindOf, proper-value, proper-enterExpr, proper-enterBlock, Just, passes, stays, tryParseExprMinBp-proper, parseBlock-proper, parseFile-proper}
 
 -- How far an outcome has looked: its cursor, or a refusal's place.
 abbrev pub reach : {A : Type 0} → Out A → ℕ
@@ -285,8 +285,8 @@ module _ (p : ℕ) (text tokens : List ℕ) (end : ℕ) (text′ tokens′ : Lis
     local proper-before s m e = gives (λ l. cc (start-same tokens tokens′ (agree .words) (pred (s .cursor .at)) (omega arith), start-same tokens tokens′ (agree .words) (s .cursor .at) (omega arith)))
     local proper-spelling s m e = gives (λ l. agree .spellings (s .cursor .at) l)
     local proper-marked s m e = gives (λ _. refl)
-    local proper-emit s m e = reported-twin _ _ _ s m e
-    local proper-emitAndMark s m e = reported-twin _ _ _ (markedHere s) m e
+    local (emits h) s m e = reported-twin _ _ _ s m e
+    local (emits-marked h) s m e = reported-twin _ _ _ (markedHere s) m e
     local proper-alloc s m e = allocated-twin _ _ _ s m e
     local proper-closeAt s m e = gives (λ _. refl)
     local proper-closeAtStart s m e = gives (λ _. refl)

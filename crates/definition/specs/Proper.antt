@@ -3,7 +3,7 @@
 use mathlib.Core.Path.{_≡_, sym, _∙_, ap}
 use mathlib.Core.Bool.{Bool, true, false, not}
 use mathlib.Core.Option.{Option, none, some}
-use mathlib.Core.List.{List, [], _∷_}
+use mathlib.Core.List.{List, []}
 use Prim.Native.Nat.{ℕ, suc, _<_, pred}
 use native.Mathlib.Numerals.{add-one}
 use borrow.Author.Tests.{lt-ltb, eqb-true}
@@ -12,7 +12,8 @@ use Rattle.words.specs.Token
 use Rattle.words.specs.Words.{tokenKind}
 use Rattle.literals.specs.declared.Span.{Span}
 use Rattle.literals.specs.Spelling as Source
-use Rattle.literals.specs.Strings.{Event, byte, report}
+use Rattle.literals.specs.Strings.{Event, decodeString, decodeHex}
+use Rattle.literals.specs.Reserved.{isMade, Others, no-others, other-byte, other-report, string-others, hex-others}
 use Rattle.definition.specs.declared.Cursor.{Cursor}
 use Rattle.definition.specs.declared.State.{State}
 use Rattle.definition.specs.declared.Mode.{Mode}
@@ -56,8 +57,9 @@ pub data ProperOf : (A : Type 0) → Prog A → Type 1 where
   proper-before : ProperOf _ before
   proper-spelling : ProperOf _ spelling
   proper-marked : ProperOf _ marked
-  proper-emit : {k d : ℕ} {p : Span} → ProperOf _ (emit k d p)
-  proper-emitAndMark : {k d : ℕ} {p : Span} → ProperOf _ (emitAndMark k d p)
+  -- "Report kind 11 is never made again." (01, W7)
+  emits : {k d : ℕ} {p : Span} → T (isMade k) → ProperOf _ (emit k d p)
+  emits-marked : {k d : ℕ} {p : Span} → T (isMade k) → ProperOf _ (emitAndMark k d p)
   proper-alloc : {start k payload : ℕ} → ProperOf _ (alloc start k payload)
   proper-closeAt : {i end : ℕ} → ProperOf _ (closeAt i end)
   proper-closeAtStart : {i j : ℕ} → ProperOf _ (closeAtStart i j)
@@ -82,6 +84,16 @@ proper-name : {B : Type 0} {k : ℕ} {g : Prog Bool} {f : ℕ → Prog B} {q : P
     → Proper (Then g (λ found. Branch found (Then (intern k) f) q))
 proper-name = names
 
+proper-emit : {k d : ℕ} {p : Span} → T (isMade k) → Proper (emit k d p)
+proper-emit = emits
+
+proper-emitAndMark : {k d : ℕ} {p : Span} → T (isMade k) → Proper (emitAndMark k d p)
+proper-emitAndMark = emits-marked
+
+-- What is asked of a kind that is written out.
+asked : Unit {0}
+asked = tt
+
 module _ {S : Type 0} (body : S → Prog (Turn S)) (h : (y : S) → Proper (body y))
     (g : (text tokens : List ℕ) (bound : ℕ) (r : Readers) (calm : Steady r) (ahead : Forward text tokens r) (y : S) → Moves text tokens bound r calm ahead isAgain (body y)) where
   proper-loop : {x : S} → Proper (Loop x body)
@@ -91,7 +103,7 @@ pub proper-option : {A B : Type 0} {p : A → Prog B} {q : Prog B} (o : Option A
 proper-option (some a) x y = x a
 proper-option none x y = y
 
-ruleset rules = (proper-then, proper-branch, proper-give, proper-peek, proper-pass, proper-position, proper-here, proper-before, proper-spelling, proper-marked, proper-emit, proper-emitAndMark, proper-alloc, proper-closeAt, proper-closeAtStart, proper-setKind, proper-link, proper-kindOf, proper-value, proper-enterExpr, proper-enterBlock)
+ruleset rules = (proper-then, proper-branch, proper-give, proper-peek, proper-pass, proper-position, proper-here, proper-before, proper-spelling, proper-marked, proper-emit, proper-emitAndMark, proper-alloc, proper-closeAt, proper-closeAtStart, proper-setKind, proper-link, proper-kindOf, proper-value, proper-enterExpr, proper-enterBlock, asked)
 
 -- ---- the programs
 
@@ -195,19 +207,28 @@ expectIdent-proper : Proper expectIdent
 unfolding expectIdent
 expectIdent-proper = proper-then tryParseIdent-proper (elim [ some ident ↦ proper-give | none ↦ search (rules, check-proper, emitUnexpected-proper, allocLastTokenAsNode-proper, errorNode-proper) depth 40 ])
 
-emitEvents-proper : (es : List Event) → Proper (emitEvents es)
+emitEvents-proper : {es : List Event} → Others es → Proper (emitEvents es)
 unfolding emitEvents
-emitEvents-proper [] = proper-give
-emitEvents-proper (byte b ∷ es) = emitEvents-proper es
-emitEvents-proper (report k d p ∷ es) = proper-then proper-emit (λ _. emitEvents-proper es)
+emitEvents-proper no-others = proper-give
+emitEvents-proper (other-byte h) = emitEvents-proper h
+emitEvents-proper (other-report t h) = proper-then (proper-emit t) (λ _. emitEvents-proper h)
 
-decodeToken-proper : (b : StringBuf) (events : List Event) → Proper (decodeToken b events)
+decodeToken-proper : (b : StringBuf) (events : List Event) → Others events → Proper (decodeToken b events)
 unfolding decodeToken
-decodeToken-proper b events = search (rules, emitEvents-proper) depth 40
+decodeToken-proper b events h = proper-then (emitEvents-proper h) (λ _. search rules depth 40)
+
+string-token-proper : (b : StringBuf) (p : Span) (s : List ℕ) → Proper (decodeToken b (decodeString p s))
+string-token-proper b p s = decodeToken-proper b (decodeString p s) (string-others p s)
+
+hex-token-proper : (b : StringBuf) (p : Span) (s : List ℕ) → Proper (decodeToken b (decodeHex p s))
+hex-token-proper b p s = decodeToken-proper b (decodeHex p s) (hex-others p s)
+
+no-token-proper : (b : StringBuf) → Proper (decodeToken b [])
+no-token-proper b = decodeToken-proper b [] no-others
 
 stringTurn-proper : (b : StringBuf) → Proper (stringTurn b)
 unfolding stringTurn
-stringTurn-proper b = search (rules, decodeToken-proper) depth 40
+stringTurn-proper b = search (rules, string-token-proper, hex-token-proper, no-token-proper) depth 40
 
 tryParseStringLiteral-proper : Proper tryParseStringLiteral
 unfolding tryParseStringLiteral
@@ -504,7 +525,7 @@ parseImportGroupItem-proper : Proper parseImportGroupItem
 unfolding parseImportGroupItem
 parseImportGroupItem-proper =
     proper-then (allocNode-proper _ _) (λ item. proper-then expectIdent-proper (λ name. proper-then proper-before (λ place. proper-then (pushChild-proper _ _) (λ item.
-    proper-then (check-proper _) (λ path. proper-then (proper-branch (proper-then (proper-loop pathTurn pathTurn-proper Progress.path-turn) (λ _. proper-emit)) proper-give) (λ _.
+    proper-then (check-proper _) (λ path. proper-then (proper-branch (proper-then (proper-loop pathTurn pathTurn-proper Progress.path-turn) (λ _. proper-emit tt)) proper-give) (λ _.
     search (rules, eat-proper, expectIdent-proper, pushChild-proper, closeNode-proper)))))))
 
 groupItem-proper : (g : Group) → Proper (groupItem g)

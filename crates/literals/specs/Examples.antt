@@ -1,7 +1,7 @@
 -- Worked cases of the definitions: those of 01, and corners of strings.rs.
 use mathlib.Core.Path.{_≡_, refl}
 use mathlib.Core.Bool.{cond}
-use mathlib.Core.List.{List, [], _∷_, map}
+use mathlib.Core.List.{List, [], _∷_, _++_, map}
 use mathlib.Core.Option.{Option, none, some}
 use Prim.Native.Nat.{ℕ, suc, _+_}
 use Prim.Native.Char.{code}
@@ -16,14 +16,14 @@ use Rattle.utf8.specs.Utf8
 use Rattle.literals.specs.Spelling.{span}
 use Rattle.literals.specs.Numbers.{nibble, digits, limbsWithin, numberValue}
 use Rattle.literals.specs.Written.{writtenWithin, written, read-back}
-use Rattle.literals.specs.Strings.{Event, byte, report, charactersFrom, run, endAfter, escape, twoDigits, escaped, decodedPiece, decodedFrom, decodeString, badDigit, isBad, digitOr0, hexFrom, decodeHex}
+use Rattle.literals.specs.Strings.{Event, byte, report, charactersFrom, endAfter, escape, twoDigits, escaped, decodedFrom, decodeString, badDigit, isBad, digitOr0, hexFrom, decodeHex}
 
 abbrev ascii : String → List ℕ
 ascii String.[] = []
 ascii (String._∷_ c s) = code c ∷ ascii s
 
 string : List ℕ → List Event
-unfolding nibble Utf8.has Utf8.follow Utf8.sequenceBy Utf8.table Utf8.leadBits Utf8.joined Utf8.codePoint Utf8.characterAt charactersFrom run endAfter escape twoDigits escaped decodedPiece decodedFrom decodeString
+unfolding nibble Utf8.has Utf8.follow Utf8.sequenceBy Utf8.table Utf8.leadBits Utf8.joined Utf8.codePoint Utf8.characterAt charactersFrom endAfter escape twoDigits escaped decodedFrom decodeString
 string s = decodeString (span 10 (10 + length s)) s
 
 hex : List ℕ → List Event
@@ -113,8 +113,20 @@ p10 : hex (ascii "hex\"4\"") ≡ report Report.OddDigits 0 (span 10 16) ∷ []
 unfolding hex
 p10 = refl
 
+-- `"épinette"` (01, W7): the bytes that the script has.
+accents : string (0x22 ∷ 0xC3 ∷ 0xA9 ∷ ascii "pinette\"") ≡ map byte (0xC3 ∷ 0xA9 ∷ ascii "pinette")
+unfolding string
+accents = refl
+
+-- Behind a backslash, and where `\x` takes it, `é` is no part of the value; in a hex string it is a bad digit.
+accents-escaped : (string (0x22 ∷ 0x5C ∷ 0xC3 ∷ 0xA9 ∷ 0x61 ∷ 0x22 ∷ []) ≡ report Report.UnknownEscape 0xE9 (span 11 14) ∷ byte 0x61 ∷ [])
+    × (string (ascii "\"\\x4" ++ (0xC3 ∷ 0xA9 ∷ 0xC3 ∷ 0xA9 ∷ 0x22 ∷ [])) ≡ report Report.BadHexEscape 0 (span 11 16) ∷ byte 0xC3 ∷ byte 0xA9 ∷ [])
+    × (hex (ascii "hex\"" ++ (0xC3 ∷ 0xA9 ∷ 0xC3 ∷ 0xA9 ∷ 0x22 ∷ [])) ≡ report Report.NonHexDigit 0xE9 (span 14 16) ∷ byte 0 ∷ [])
+unfolding string hex
+accents-escaped = (refl, refl, refl)
+
 -- Nothing at all, and tokens that lexing never makes.
-no-quotes : (string [] ≡ []) × (hex (0xC3 ∷ 0xA9 ∷ []) ≡ []) × (string (0x22 ∷ 0xC3 ∷ 0x22 ∷ []) ≡ report Report.NonAscii 0 (span 11 12) ∷ [])
+no-quotes : (string [] ≡ []) × (hex (0xC3 ∷ 0xA9 ∷ []) ≡ []) × (string (0x22 ∷ 0xC3 ∷ 0x22 ∷ []) ≡ byte 0xC3 ∷ [])
 unfolding string hex
 no-quotes = (refl, refl, refl)
 

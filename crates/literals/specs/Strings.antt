@@ -3,7 +3,7 @@ use mathlib.Core.Option.{Option, none, some}
 use mathlib.Core.Bool.{Bool, true, false, cond, _||_}
 use mathlib.Core.List.{List, [], _∷_, _++_}
 use Prim.Native.Nat.{ℕ, zero, suc, _+_, _-_, _*_}
-use lib.Dec.{eqb, ltb}
+use lib.Dec.{eqb}
 use lib.ListN.{length, take, drop}
 use Rattle.words.specs.Report
 use Rattle.words.specs.Value
@@ -44,18 +44,9 @@ charactersFrom at zero (b ∷ s) =
       | Nothing ↦ char b at (at + 1) ∷ charactersFrom (at + 1) 0 s
     ]
 
--- The characters between the quotes of a token's spelling, which begins at offset `at`; `opening` bytes stand before them, and one after.
-abbrev pub inside : ℕ → ℕ → List ℕ → List Char
-inside opening at s = charactersFrom (at + opening) 0 (take (length s - (opening + 1)) (drop opening s))
-
--- `char::is_ascii`
-abbrev pub isAscii : Char → Bool
-isAscii c = ltb (c .code) 128
-
--- How many characters in front are not ASCII.
-unfoldable pub run : List Char → ℕ
-run [] = 0
-run (c ∷ cs) = cond (isAscii c) 0 (run cs + 1)
+-- What stands between the quotes of a token's spelling: `opening` bytes stand before it, and one after.
+abbrev pub between : ℕ → List ℕ → List ℕ
+between opening s = take (length s - (opening + 1)) (drop opening s)
 
 -- Where characters that come one after the other end, the first `n` of `cs`, after one that ends at `end`.
 unfoldable pub endAfter : ℕ → ℕ → List Char → ℕ
@@ -63,17 +54,13 @@ endAfter end zero cs = end
 endAfter end (suc n) [] = end
 endAfter end (suc n) (c ∷ cs) = endAfter (c .place .end) n cs
 
--- What one turn of the loop in `decode_string_token` does with a character: the event, and how many more characters it takes.
+-- What a backslash and the characters that it takes stand for, and the offset where they end.
 pub record Piece : Type 0 where
   pub event : Event
-  pub takes : ℕ
+  pub end : ℕ
 
 abbrev pub piece : Event → ℕ → Piece
-piece e n = record { event = e; takes = n }
-
--- From the character `c` to the end of the next `n`.
-abbrev pub from : Char → ℕ → List Char → Span
-from c n cs = span (c .place .start) (endAfter (c .place .end) n cs)
+piece e n = record { event = e; end = n }
 
 -- The escapes of one character: n r t 0 \ and ".
 unfoldable pub escape : ℕ → Option ℕ
@@ -95,36 +82,33 @@ twoDigits (d ∷ e ∷ cs) =
       | none ↦ none
     ]
 
--- A backslash, and the characters after it. "A bad `\x` has already taken two characters, or as many as are left" (01, strings.rs).
+-- A backslash at the offset `at`, and the characters after it. "A bad `\x` has already taken two characters, or as many as are left" (01, strings.rs).
 -- A backslash at the end, where the Rust panics, is a report over its one byte (01, Known exceptions).
-unfoldable pub escaped : Char → List Char → Piece
-escaped c [] = piece (report Report.BackslashAtEnd 0 (from c 0 [])) 0
-escaped c (e ∷ cs) =
+unfoldable pub escaped : ℕ → List Char → Piece
+escaped at [] = piece (report Report.BackslashAtEnd 0 (span at (at + 1))) (at + 1)
+escaped at (e ∷ cs) =
+    let one = e .place .end in
+    let three = endAfter one 2 cs in
     elim (escape (e .code)) [
-      | some b ↦ piece (byte b) 1
+      | some b ↦ piece (byte b) one
       | none ↦ elim (eqb (e .code) 120) [
-        | true ↦ elim (twoDigits cs) [ some b ↦ piece (byte b) 3 | none ↦ piece (report Report.BadHexEscape 0 (from c 3 (e ∷ cs))) 3 ]
-        | false ↦ piece (report Report.UnknownEscape (e .code) (from c 1 (e ∷ cs))) 1
+        | true ↦ elim (twoDigits cs) [ some b ↦ piece (byte b) three | none ↦ piece (report Report.BadHexEscape 0 (span at three)) three ]
+        | false ↦ piece (report Report.UnknownEscape (e .code) (span at one)) one
       ]
     ]
 
--- "A run of non-ASCII characters is one report and no bytes" (01, strings.rs).
-unfoldable pub decodedPiece : Char → List Char → Piece
-decodedPiece c cs =
-    elim (isAscii c) [
-      | false ↦ piece (report Report.NonAscii 0 (from c (run cs) cs)) (run cs)
-      | true ↦ elim (eqb (c .code) 92) [ true ↦ escaped c cs | false ↦ piece (byte (c .code)) 0 ]
-    ]
-
--- The characters of a `"` token, of which the first `taken` belong to the piece before.
-unfoldable pub decodedFrom : ℕ → List Char → List Event
-decodedFrom taken [] = []
-decodedFrom (suc taken) (c ∷ cs) = decodedFrom taken cs
-decodedFrom zero (c ∷ cs) = decodedPiece c cs .event ∷ decodedFrom (decodedPiece c cs .takes) cs
+-- What stands between the quotes of a `"` token, from the offset `at` on; its first `taken` bytes belong to the escape before. "non-ASCII characters
+-- now stand in the value as their UTF-8 bytes, without a report" (01, W7): each byte but a backslash stands for itself.
+unfoldable pub decodedFrom : ℕ → ℕ → List ℕ → List Event
+decodedFrom at taken [] = []
+decodedFrom at (suc taken) (b ∷ s) = decodedFrom (at + 1) taken s
+decodedFrom at zero (b ∷ s) =
+    let p = escaped at (charactersFrom (at + 1) 0 s) in
+    cond (eqb b 92) (p .event ∷ decodedFrom (at + 1) (p .end - (at + 1)) s) (byte b ∷ decodedFrom (at + 1) 0 s)
 
 -- `decode_string_token`: the spelling of a `"` token that covers the span `token`.
 unfoldable pub decodeString : Span → List ℕ → List Event
-decodeString token s = decodedFrom 0 (inside 1 (token .start) s)
+decodeString token s = decodedFrom (token .start + 1) 0 (between 1 s)
 
 -- "In a hex string a bad digit counts 0, only the first is reported" (01, strings.rs): the first in each token.
 unfoldable pub badDigit : Bool → Char → List Event
@@ -148,7 +132,7 @@ hexFrom token already (c ∷ d ∷ cs) =
 
 -- `decode_hex_token`.
 unfoldable pub decodeHex : Span → List ℕ → List Event
-decodeHex token s = hexFrom token false (inside 4 (token .start) s)
+decodeHex token s = hexFrom token false (charactersFrom (token .start + 4) 0 (between 4 s))
 
 -- "Bytes four to a word, first lowest, padded with 0" (01, Words that are lent).
 unfoldable pub fours : List ℕ → List ℕ

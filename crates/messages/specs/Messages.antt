@@ -2,7 +2,7 @@
 use Prim.Native.Nat.{ℕ, _+_}
 use mathlib.Core.Bool.{Bool, cond, _||_}
 use lib.Dec.{eqb, leb}
-use Rattle.words.specs.Report.{LexerError, Unexpected, MissingToken, MissingSpecific, UnknownEscape, NonHexDigit, BackslashAtEnd}
+use Rattle.words.specs.Report.{LexerError, Unexpected, MissingToken, MissingSpecific, NonAscii, UnknownEscape, NonHexDigit, BackslashAtEnd}
 use Rattle.words.specs.ErrorToken.{InvalidChar, AtWithoutIdent}
 use Rattle.scan.specs.Bytes.{within}
 use Rattle.messages.specs.declared.Subject.{Subject}
@@ -23,14 +23,15 @@ subjectOf kind detail =
     (cond (eqb kind UnknownEscape) (Character detail)
     (cond (eqb kind NonHexDigit) (Character detail) Nothing)))))
 
--- The table of sentences has a line for each kind, under its number, and 0 for what is none. Behind these it has one for each lexer error,
--- "order in `ErrorToken` from 0", and a detail above them has the line of kind 1.
+-- The table of sentences has a line for each kind, under its number, and 0 for what is none or never made: "Report kind 11 is never made again."
+-- (01, W7). Behind these it has one for each lexer error, "order in `ErrorToken` from 0", and a detail above them has the line of kind 1.
 unfoldable pub sentenceOf : ℕ → ℕ → ℕ
 sentenceOf kind detail =
     cond (leb kind BackslashAtEnd)
+    (cond (eqb kind NonAscii) 0
     (cond (eqb kind LexerError)
     (cond (leb detail AtWithoutIdent) (BackslashAtEnd + 1 + detail) kind)
-    kind)
+    kind))
     0
 
 -- The control characters but the tab (U+0000 to U+001F, U+007F to U+009F), and Unicode's that part lines or turn the direction of

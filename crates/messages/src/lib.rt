@@ -50,6 +50,9 @@ pub fn sentence_of(kind: u32, detail: u32) -> u32
     if report::BACKSLASH_AT_END < kind {
         return 0;
     }
+    if kind == report::NON_ASCII {
+        return 0;
+    }
     if kind != report::LEXER_ERROR {
         return kind;
     }

@@ -1,7 +1,7 @@
 // Tables of texts, a text to a line. A text that begins with a blank is written behind its subject.
 
-// What a report says, by `sentence_of`.
-pub const SENTENCES: [u8; 973] = *b"the report is of no known kind
+// What a report says, by `sentence_of`. The line of the kind that is reserved is empty.
+pub const SENTENCES: [u8; 934] = *b"the report is of no known kind
 this is no token of Plank
  is not expected here
  is missing here
@@ -12,7 +12,7 @@ a struct's fields must come before its methods
 only a plain name can stand in an import group, not a path
 this import group is empty
 this import group has one name, so it needs no braces
-a string can hold ASCII characters only
+
 '\\x' must be followed by two hexadecimal digits
  can't stand after a backslash: only n, r, t, 0, x, \\ and \" can
  is no hexadecimal digit

@@ -30,7 +30,7 @@ use Rattle.tree.specs.Rows.{Clean}
 use Rattle.agreement.specs.Sim.{Sim, gives, fails, sinks, Made, made}
 use Rattle.agreement.specs.Files.{FileRead, file-read, file-agrees}
 use Rattle.reader.specs.Read.{Read, Lent, after, parsing, afterLexing, reads}
-use Rattle.reader.specs.Rows.{Counted, counted, not-lexed, lexed-counted, lexed-tokens, lexed-length, tokens-few, row-short, row-clean, given-cost, given-limit, given-ahead, given-clean}
+use Rattle.reader.specs.Rows.{Counted, counted, not-lexed, lexed-counted, lexed-tokens, lexed-length, tokens-few, row-short, row-clean, text-bytes, given-cost, given-limit, given-ahead, given-clean}
 use Rattle.reader.specs.Demand.{rowOf, Derived, Agreed, Agrees}
 
 -- An answer beside an outcome is a tree of the row.
@@ -78,7 +78,7 @@ module _ (text : List ℕ) (lent n : ℕ) (e : lexed text lent ≡ done (n ∷ [
   -- Where no token is an error, parsing agrees with the parser of rows.
   parsing-agrees : Clean (rowFrom tokens 0 (length tokens)) → Sim (Made (FileRead text tokens)) (parsedA text tokens) (parse maxDepth (row text tokens))
   parsing-agrees c =
-      file-agrees text tokens (omega (arith, lexed-length text lent n e, tokens-few text lent n e))
+      file-agrees text tokens (omega (arith, lexed-length text lent n e, tokens-few text lent n e)) (text-bytes text lent n e)
       (rw (given-limit text lent n e) (given-ahead text lent n e _ _ _ _ c))
       (given-cost text lent n e)
       (omega (arith, row-short text tokens tokens 0, given-limit text lent n e))
@@ -142,7 +142,7 @@ agreed text lent {tokens = n} {nodes = nodes} {values = values} {reports = repor
       where
         go : {x : Answer} → Counted text x → x ≡ done counts → afterLexing text lent words (done counts) .answer ≡ done (n ∷ nodes ∷ values ∷ reports ∷ [])
             → Agreed text (afterLexing text lent words (done counts) .tokens) (afterLexing text lent words (done counts) .nodes) (afterLexing text lent words (done counts) .values) n nodes values reports
-        go (counted h) r q = let c : counts ≡ length (tokensOf text) ∷ [] = cc in rw c (parsed-to (length (tokensOf text)) (e ∙ ap done c) _ refl (rw c at q))
+        go (counted h g) r q = let c : counts ≡ length (tokensOf text) ∷ [] = cc in rw c (parsed-to (length (tokensOf text)) (e ∙ ap done c) _ refl (rw c at q))
         go not-lexed r q = absurd (let z : _≡_ {A = ℕ} 0 1 = cc in omega arith)
 
 pub agrees-of : (text : List ℕ) (lent : Lent) {q : Read} → q ≡ reads text lent → Agrees text q

@@ -4,4 +4,5 @@ pub mod Kinds
 pub mod Rows
 pub mod Demand
 pub mod Marked
+pub mod Reserved
 pub mod Joined

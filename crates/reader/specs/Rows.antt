@@ -18,6 +18,8 @@ use Rattle.words.specs.Words.{tokenKind, tokenEnd}
 use Rattle.words.specs.Laws.{high-pack, low-pack}
 use Rattle.words.specs.Answer.{Answer, done, refused}
 use Rattle.utf8.specs.Utf8.{checked}
+use Rattle.utf8.specs.Bytes.{AreBytes}
+use Rattle.utf8.specs.Laws.{good-bytes}
 use Rattle.utf8.specs.declared.Checked.{Checked}
 use Rattle.utf8.specs.declared.Checked.the-variants.{Good, Bad}
 use Rattle.scan.specs.declared.Token.{Token as LexToken}
@@ -42,37 +44,41 @@ use Rattle.reader.specs.Kinds.{token-low}
 
 -- ---- what lexing answers
 
--- A text that was lexed is short, and its tokens are counted.
+-- A text that was lexed is short and UTF-8, and its tokens are counted.
 pub data Counted (text : List ℕ) : Answer → Type 0 where
-  counted : length text ≤ longestText → Counted text (done (length (tokensOf text) ∷ []))
+  counted : length text ≤ longestText → checked text ≡ Good → Counted text (done (length (tokensOf text) ∷ []))
   not-lexed : {number place : ℕ} → Counted text (refused number place)
 
 pub lexed-counted : (text : List ℕ) (lent : ℕ) → Counted text (lexed text lent)
 unfolding lexed
 lexed-counted text lent = long (ltb longestText (length text)) refl
   where
-    fit : (t : Bool) → length text ≤ longestText
+    fit : (t : Bool) → length text ≤ longestText → checked text ≡ Good
         → Counted text (cond t (refused Refusal.TokensDontFit (length (tokensOf text))) (done (length (tokensOf text) ∷ [])))
-    fit true h = not-lexed
-    fit false h = counted h
+    fit true h g = not-lexed
+    fit false h g = counted h g
 
-    good-text : (c : Checked) → length text ≤ longestText
+    good-text : (c : Checked) → checked text ≡ c → length text ≤ longestText
         → Counted text (elim c [ Bad way at ↦ refused (notUtf8 way) at | Good ↦ cond (ltb lent (length (tokensOf text))) (refused Refusal.TokensDontFit (length (tokensOf text))) (done (length (tokensOf text) ∷ [])) ])
-    good-text Good h = fit (ltb lent (length (tokensOf text))) h
-    good-text (Bad w o) h = not-lexed
+    good-text Good g h = fit (ltb lent (length (tokensOf text))) h g
+    good-text (Bad w o) g h = not-lexed
 
     long : (t : Bool) → ltb longestText (length text) ≡ t
         → Counted text (cond t (refused Refusal.TooLong longestText) (elim (checked text) [ Bad way at ↦ refused (notUtf8 way) at | Good ↦ cond (ltb lent (length (tokensOf text))) (refused Refusal.TokensDontFit (length (tokensOf text))) (done (length (tokensOf text) ∷ [])) ]))
     long true e = not-lexed
-    long false e = good-text (checked text) (ltb-false longestText (length text) e)
+    long false e = good-text (checked text) refl (ltb-false longestText (length text) e)
 
 module _ (text : List ℕ) (lent n : ℕ) (e : lexed text lent ≡ done (n ∷ [])) where
-  counts : (length text ≤ longestText) × (n ≡ length (tokensOf text))
+  counts : (length text ≤ longestText) × (n ≡ length (tokensOf text)) × (checked text ≡ Good)
   counts = go (lexed-counted text lent) e
     where
-      go : {a : Answer} → Counted text a → a ≡ done (n ∷ []) → (length text ≤ longestText) × (n ≡ length (tokensOf text))
-      go (counted h) e = (h, cc)
+      go : {a : Answer} → Counted text a → a ≡ done (n ∷ []) → (length text ≤ longestText) × (n ≡ length (tokensOf text)) × (checked text ≡ Good)
+      go (counted h g) e = (h, cc, g)
       go not-lexed e = absurd (let z : _≡_ {A = ℕ} 0 1 = cc in omega arith)
+
+  -- Its bytes are bytes.
+  pub text-bytes : AreBytes text
+  text-bytes = good-bytes text (counts .2)
 
   -- A text that was lexed is short.
   pub text-short : length text ≤ 65536

@@ -141,9 +141,9 @@ tests [] = []
 tests (t ∷ ts) = has t ∷ tests ts
 
 there : tests (each parsedTree scripts) ≡ true ∷ true ∷ true ∷ false ∷ false ∷ true ∷ true ∷ []
-unfolding has tests tokenWords constant scripts treeIn parsedTree whole chartTree each computed stored Stored.wordBytes Stored.where-so Stored.isName Stored.valueAt Stored.said Stored.joined Stored.treesFrom Words.pack Words.high Words.low Spelling.tokenStart Spelling.covered rowFrom isBlank begins Tree._⊕_ Tree.branch Tree.flag Tree.quiet Parser.within Parser.lookup Parser.operatorOf Chart.binaryTree Chart.isBlockLike Parser.parse Parser.readFile Parser.readers Parser.readLevel Parser.readPrefix Parser.readBlock Parser.readOperand Parser.readRound Parser.readStruct Parser.readComptime Parser.readElseIfs Parser.readFields Parser.readList Parser.readOn Parser.onOp Parser.onLevel Parser.readDeclarations Parser.readDeclaration Parser.readStatements Parser.readStatement Parser.readExpression Parser.readStrings Parser.prepend Parser.on Parser.if Parser.bind Parser.try Parser.push Numbers.nibble Numbers.digits Utf8.has Utf8.follow Utf8.sequenceBy Utf8.table Utf8.leadBits Utf8.joined Utf8.codePoint Utf8.characterAt Strings.charactersFrom Strings.run Strings.endAfter Strings.escape Strings.twoDigits Strings.escaped Strings.decodedPiece Strings.decodedFrom Strings.decodeString Strings.badDigit Strings.isBad Strings.digitOr0 Strings.hexFrom Strings.decodeHex Strings.bytesOf
+unfolding has tests tokenWords constant scripts treeIn parsedTree whole chartTree each computed stored Stored.wordBytes Stored.where-so Stored.isName Stored.valueAt Stored.said Stored.joined Stored.treesFrom Words.pack Words.high Words.low Spelling.tokenStart Spelling.covered rowFrom isBlank begins Tree._⊕_ Tree.branch Tree.flag Tree.quiet Parser.within Parser.lookup Parser.operatorOf Chart.binaryTree Chart.isBlockLike Parser.parse Parser.readFile Parser.readers Parser.readLevel Parser.readPrefix Parser.readBlock Parser.readOperand Parser.readRound Parser.readStruct Parser.readComptime Parser.readElseIfs Parser.readFields Parser.readList Parser.readOn Parser.onOp Parser.onLevel Parser.readDeclarations Parser.readDeclaration Parser.readStatements Parser.readStatement Parser.readExpression Parser.readStrings Parser.prepend Parser.on Parser.if Parser.bind Parser.try Parser.push Numbers.nibble Numbers.digits Utf8.has Utf8.follow Utf8.sequenceBy Utf8.table Utf8.leadBits Utf8.joined Utf8.codePoint Utf8.characterAt Strings.charactersFrom Strings.endAfter Strings.escape Strings.twoDigits Strings.escaped Strings.decodedFrom Strings.decodeString Strings.badDigit Strings.isBad Strings.digitOr0 Strings.hexFrom Strings.decodeHex Strings.bytesOf
 there = refl
 
 agree : each parsedTree scripts ≡ each chartTree scripts
-unfolding tokenWords constant scripts treeIn parsedTree whole chartTree each computed stored Stored.wordBytes Stored.where-so Stored.isName Stored.valueAt Stored.said Stored.joined Stored.treesFrom Words.pack Words.high Words.low Spelling.tokenStart Spelling.covered rowFrom isBlank begins Tree._⊕_ Tree.branch Tree.flag Tree.quiet Parser.within Parser.lookup Parser.operatorOf Chart.binaryTree Chart.isBlockLike Parser.parse Parser.readFile Parser.readers Parser.readLevel Parser.readPrefix Parser.readBlock Parser.readOperand Parser.readRound Parser.readStruct Parser.readComptime Parser.readElseIfs Parser.readFields Parser.readList Parser.readOn Parser.onOp Parser.onLevel Parser.readDeclarations Parser.readDeclaration Parser.readStatements Parser.readStatement Parser.readExpression Parser.readStrings Parser.prepend Parser.on Parser.if Parser.bind Parser.try Parser.push Numbers.nibble Numbers.digits Utf8.has Utf8.follow Utf8.sequenceBy Utf8.table Utf8.leadBits Utf8.joined Utf8.codePoint Utf8.characterAt Strings.charactersFrom Strings.run Strings.endAfter Strings.escape Strings.twoDigits Strings.escaped Strings.decodedPiece Strings.decodedFrom Strings.decodeString Strings.badDigit Strings.isBad Strings.digitOr0 Strings.hexFrom Strings.decodeHex Strings.bytesOf
+unfolding tokenWords constant scripts treeIn parsedTree whole chartTree each computed stored Stored.wordBytes Stored.where-so Stored.isName Stored.valueAt Stored.said Stored.joined Stored.treesFrom Words.pack Words.high Words.low Spelling.tokenStart Spelling.covered rowFrom isBlank begins Tree._⊕_ Tree.branch Tree.flag Tree.quiet Parser.within Parser.lookup Parser.operatorOf Chart.binaryTree Chart.isBlockLike Parser.parse Parser.readFile Parser.readers Parser.readLevel Parser.readPrefix Parser.readBlock Parser.readOperand Parser.readRound Parser.readStruct Parser.readComptime Parser.readElseIfs Parser.readFields Parser.readList Parser.readOn Parser.onOp Parser.onLevel Parser.readDeclarations Parser.readDeclaration Parser.readStatements Parser.readStatement Parser.readExpression Parser.readStrings Parser.prepend Parser.on Parser.if Parser.bind Parser.try Parser.push Numbers.nibble Numbers.digits Utf8.has Utf8.follow Utf8.sequenceBy Utf8.table Utf8.leadBits Utf8.joined Utf8.codePoint Utf8.characterAt Strings.charactersFrom Strings.endAfter Strings.escape Strings.twoDigits Strings.escaped Strings.decodedFrom Strings.decodeString Strings.badDigit Strings.isBad Strings.digitOr0 Strings.hexFrom Strings.decodeHex Strings.bytesOf
 agree = refl

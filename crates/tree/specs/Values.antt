@@ -10,6 +10,7 @@ use borrow.Author.Tests.{eqb-true, leb-true, le-leb, ltb-true, ltb-false}
 use lib.Dec.{eqb, ltb, leb}
 use lib.ListN.{length, getD, take, drop, length-append, List·getD-append, List·getD-eq-default}
 use lib.Seq.{take-append-le, take-length, drop-append-le, drop-append-add, getD-append-seam}
+use Rattle.utf8.specs.Bytes.{AreBytes}
 use Rattle.words.specs.Node
 use Rattle.words.specs.Value as Tag
 use Rattle.words.specs.Words.{high, valueHead, valueTag, valueCount}
@@ -110,11 +111,6 @@ number-read values n h =
     let tag : valueTag (valueHead Tag.Number (length ls)) ≡ Tag.Number = high-pack 30 Tag.Number (length ls) (omega arith) in
     let count : valueCount (valueHead Tag.Number (length ls)) ≡ length ls = low-pack 30 Tag.Number (length ls) h in
     rw (head, rest, tag, count, le-leb (length ls) (length ls) (omega arith), take-length ls, limbs-make n n (omega arith))
-
--- All of a list are bytes.
-abbrev pub AreBytes : List ℕ → Type 0
-AreBytes [] = Unit {0}
-AreBytes (b ∷ s) = (b < 256) × AreBytes s
 
 fours-length : (s : List ℕ) → length (fours s) ≡ wordsFor (length s)
 unfolding fours

@@ -9,6 +9,7 @@ use borrow.Author.Tests.{le-leb, lt-leb, leb-true, eqb-true}
 use lib.Dec.{leb, eqb}
 use lib.ListN.{length, take, drop}
 use lib.Seq.{drop-nil, length-take-le}
+use Rattle.utf8.specs.Bytes.{AreBytes}
 use Rattle.utf8.specs.Utf8.{Range, _‥_, Row, has, follow, sequenceBy, sequence, table, checkedFrom, checked, leadBits, joined, codePoint, characterAt}
 use Rattle.utf8.specs.declared.Sequence.{Sequence}
 use Rattle.utf8.specs.declared.Sequence.the-variants.{Right, Wrong}
@@ -288,3 +289,60 @@ character-fits (b ∷ s) code size e = go (sequence b s) refl
         let i : Nothing ≡ Is code size = sym (character-wrong b s v f) ∙ e in
         let z : _≡_ {A = ℕ} 0 1 = cc in
         omega arith
+
+-- All bytes of a good text are below 256, in fact at most F4: those of each range are.
+abbrev isSmall : Range → Bool
+isSmall r = leb (r .hi) 0xFF
+
+-- The first so many are bytes.
+abbrev FirstBytes : ℕ → List ℕ → Type 0
+FirstBytes zero s = Unit {0}
+FirstBytes (suc n) [] = Unit {0}
+FirstBytes (suc n) (b ∷ s) = (b < 256) × FirstBytes n s
+
+has-small : (r : Range) (b : ℕ) → isSmall r ≡ true → has r b ≡ true → b < 256
+has-small r b t h = omega (arith, has-bounds r b h, leb-true (r .hi) 0xFF t)
+
+follow-small : (n : ℕ) (rs : List Range) (s : List ℕ) (m : ℕ) → every isSmall rs ≡ true → follow n rs s ≡ Right m → FirstBytes (length rs) s
+unfolding follow
+follow-small n [] s m t e = tt
+follow-small n (r ∷ rs) [] m t e = tt
+follow-small n (r ∷ rs) (b ∷ s) m t e = go (has r b) refl (follow-small (suc n) rs s m)
+  where
+    p : (isSmall r ≡ true) × (every isSmall rs ≡ true)
+    p = both (isSmall r) (every isSmall rs) t
+
+    go : (u : Bool) → has r b ≡ u → (every isSmall rs ≡ true → follow (suc n) rs s ≡ Right m → FirstBytes (length rs) s) → (b < 256) × FirstBytes (length rs) s
+    go true u ih = (has-small r b (p .0) u, ih (p .1) (rw u at e))
+    go false u ih =
+        let f : Wrong NotAllowed ≡ Right m = rw u at e in
+        let z : _≡_ {A = ℕ} 0 1 = cc in
+        absurd (omega arith)
+
+right-small : (b : ℕ) (s : List ℕ) (n : ℕ) → sequence b s ≡ Right n → (b < 256) × FirstBytes (n - 1) s
+unfolding table
+right-small b s n e = by-rows b s n (λ row. isSmall (row .lead) && every isSmall (row .more)) ((b < 256) × FirstBytes (n - 1) s) gives table refl e
+  where
+    gives : (row : Row) → (isSmall (row .lead) && every isSmall (row .more)) ≡ true → has (row .lead) b ≡ true → follow 1 (row .more) s ≡ Right n → (b < 256) × FirstBytes (n - 1) s
+    gives row p q f =
+        let u = both (isSmall (row .lead)) (every isSmall (row .more)) p in
+        let k : n - 1 ≡ length (row .more) = omega (arith, follow-right 1 (row .more) s n f) in
+        (has-small (row .lead) b (u .0) q, rw k (follow-small 1 (row .more) s n (u .1) f))
+
+good-small : (at k : ℕ) (s : List ℕ) → checkedFrom at k s ≡ Good → FirstBytes k s → AreBytes s
+unfolding checkedFrom
+good-small at k [] e h = tt
+good-small at (suc k) (b ∷ s) e h = (h .0, good-small (suc at) k s e (h .1))
+good-small at zero (b ∷ s) e h = go (sequence b s) refl (λ n. good-small (suc at) (n - 1) s)
+  where
+    go : (q : Sequence) → sequence b s ≡ q → ((n : ℕ) → checkedFrom (suc at) (n - 1) s ≡ Good → FirstBytes (n - 1) s → AreBytes s) → (b < 256) × AreBytes s
+    go (Right n) f ih =
+        let r = right-small b s n f in
+        (r .0, ih n (rw (f, checkedFrom) at e) (r .1))
+    go (Wrong v) f ih =
+        let g : Bad v at ≡ Good = rw (f, checkedFrom) at e in
+        let z : _≡_ {A = ℕ} 0 1 = cc in
+        absurd (omega arith)
+
+pub good-bytes : (s : List ℕ) → checked s ≡ Good → AreBytes s
+good-bytes s e = good-small 0 0 s e tt

@@ -1,4 +1,5 @@
 pub mod Utf8
+pub mod Bytes
 pub mod Rows
 pub mod Laws
 pub mod Examples

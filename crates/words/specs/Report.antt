@@ -31,6 +31,7 @@ EmptyGroup = 9
 abbrev pub NeedlessBraces : ℕ
 NeedlessBraces = 10
 
+-- Reserved: "Report kind 11 is never made again." (01, W7)
 abbrev pub NonAscii : ℕ
 NonAscii = 11
 

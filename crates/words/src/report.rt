@@ -20,6 +20,7 @@ pub const EMPTY_GROUP: u32 = 9;
 
 pub const NEEDLESS_BRACES: u32 = 10;
 
+// Reserved: "Report kind 11 is never made again." (01, W7)
 pub const NON_ASCII: u32 = 11;
 
 pub const BAD_HEX_ESCAPE: u32 = 12;

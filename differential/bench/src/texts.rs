@@ -9,12 +9,13 @@ pub struct Kind {
 
 pub const SIZES: [usize; 3] = [200, 4_096, 65_536];
 
-pub const KINDS: [Kind; 9] = [
+pub const KINDS: [Kind; 10] = [
     Kind { name: "declarations", make: declarations },
     Kind { name: "names, all different", make: different_names },
     Kind { name: "one name", make: one_name },
     Kind { name: "nests", make: nests },
     Kind { name: "long string", make: long_string },
+    Kind { name: "long string, accents", make: long_string_of_accents },
     Kind { name: "long decimal", make: long_decimal },
     Kind { name: "long hexadecimal", make: long_hexadecimal },
     Kind { name: "comments", make: comments },
@@ -78,6 +79,10 @@ fn within(before: &str, filling: &str, behind: &str, size: usize) -> String {
 
 fn long_string(size: usize) -> String {
     within("const a = \"", "spruce 42, ", "\";", size)
+}
+
+fn long_string_of_accents(size: usize) -> String {
+    within("const a = \"", "éèàç", "\";", size)
 }
 
 fn long_decimal(size: usize) -> String {

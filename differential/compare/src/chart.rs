@@ -167,12 +167,12 @@ fn row_of(text: &str) -> Option<Vec<u8>> {
     Some(row)
 }
 
-/// Is a string without escapes, of ASCII, and of pairs of digits where it is a hex string?
+/// Is a string without escapes, and of pairs of digits where it is a hex string?
 fn is_plain(spelling: &str) -> bool {
     let body = spelling.trim_start_matches("hex").trim_matches('"');
     match spelling.starts_with("hex") {
         true => body.len().is_multiple_of(2) && body.bytes().all(|byte| byte.is_ascii_hexdigit()),
-        false => body.bytes().all(|byte| byte.is_ascii() && byte != b'\\'),
+        false => !body.contains('\\'),
     }
 }
 

@@ -1,5 +1,6 @@
 //! Compares the library with the reference, text by text.
 
+mod accents;
 mod answer;
 mod chart;
 mod check;

@@ -1,7 +1,6 @@
 -- `char_at` meets its contract, by case.
 use mathlib.Core.Path.{sym, _∙_}
-use Rattle.decoder.specs.Chars.{standing-is, standing-byte}
-use Rattle.decoder.specs.Plain.{plain-standing}
+use Rattle.decoder.specs.Chars.{standing-is, standing-byte, standing-ascii}
 use native.Mathlib.Omega.{arith}
 use borrow.Author.Needs.{needs}
 use Rattle.decoder.proofs.char_at.Statement.{statement}
@@ -17,7 +16,7 @@ add-t10 : tie.Need-add-t10
 add-t10 c = search needs
 
 returns : tie.Need-returns
-returns c = plain-standing _ _ (c .before .before .before .pre) (c .if1 .taken)
+returns c = standing-ascii _ _ (c .before .before .before .pre) (c .if1 .taken)
 
 character-at-requires : tie.Need-character-at-requires
 character-at-requires c κs = search needs

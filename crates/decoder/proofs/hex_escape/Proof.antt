@@ -10,7 +10,7 @@ reported-requires : tie.Need-reported-requires
 reported-requires c κs = search needs
 
 returns : tie.Need-returns
-returns c = told _ _ _ (c .reported .result .event) _ _ _ (cut-x _ _ _ _ _ (c .before .before .before .pre .1 .at) refl _ _ (c .before .before .before .pre .1 .then) no-escape refl (c .before .if1 .taken)) (c .reported .ensures)
+returns c = told _ _ _ (c .reported .result .event) _ _ _ (cut-x _ _ _ (c .before .before .before .pre .1 .at) _ _ (c .before .before .before .pre .1 .then) no-escape refl (c .before .if1 .taken)) (c .reported .ensures)
 
 char-at-requires : tie.Need-char-at-requires
 char-at-requires c κs = search needs
@@ -23,7 +23,7 @@ returns-2 c =
     let at-if2 = c .before in
     let at-char-at = at-if2 .before in
     let at-pre = at-char-at .before .before .before in
-    told _ _ _ (c .reported2 .result .event) _ _ _ (cut-x-one _ _ _ _ _ (at-pre .pre .1 .at) refl _ _ (at-pre .pre .1 .then) no-escape refl _ _
+    told _ _ _ (c .reported2 .result .event) _ _ _ (cut-x-one _ _ _ (at-pre .pre .1 .at) _ _ (at-pre .pre .1 .then) no-escape refl _ _
     (at-char-at .char-at .ensures) (at-if2 .if2 .taken)) (c .reported2 .ensures)
 
 char-at-requires-2 : tie.Need-char-at-requires-2
@@ -76,7 +76,7 @@ returns-3 c =
     let at-char-at2 = at-nibble .before in
     let at-char-at = at-char-at2 .before .before in
     let at-pre = at-char-at .before .before .before in
-    cut-digits _ _ _ _ _ (at-pre .pre .1 .at) refl _ _ (at-pre .pre .1 .then) no-escape refl _ _ (at-char-at .char-at .ensures) _ _
+    cut-digits _ _ _ (at-pre .pre .1 .at) _ _ (at-pre .pre .1 .then) no-escape refl _ _ (at-char-at .char-at .ensures) _ _
     (at-char-at2 .char-at2 .ensures) _ (rw (at-h .h .given .1) at (at-nibble .nibble .ensures .0)) _
     (rw (at-l .l .given .1) at (at-nibble2 .nibble2 .ensures .0)) (rw (at-h .h .given .1) at (at-nibble .nibble .ensures .1))
     (rw (at-l .l .given .1) at (at-nibble2 .nibble2 .ensures .1))
@@ -90,7 +90,7 @@ returns-4 c =
     let at-char-at2 = at-nibble .before in
     let at-char-at = at-char-at2 .before .before in
     let at-pre = at-char-at .before .before .before in
-    told _ _ _ (c .reported3 .result .event) _ _ _ (cut-one-digit _ _ _ _ _ (at-pre .pre .1 .at) refl _ _ (at-pre .pre .1 .then) no-escape refl _ _
+    told _ _ _ (c .reported3 .result .event) _ _ _ (cut-one-digit _ _ _ (at-pre .pre .1 .at) _ _ (at-pre .pre .1 .then) no-escape refl _ _
     (at-char-at .char-at .ensures) _ _ (at-char-at2 .char-at2 .ensures) _ (rw (at-h .h .given .1) at (at-nibble .nibble .ensures .0))
     (rw (at-enum-told .enum-told .given .1) at (at-nibble2 .nibble2 .ensures .0))) (c .reported3 .ensures)
 
@@ -101,7 +101,7 @@ returns-5 c =
     let at-char-at2 = at-nibble .before in
     let at-char-at = at-char-at2 .before .before in
     let at-pre = at-char-at .before .before .before in
-    told _ _ _ (c .reported4 .result .event) _ _ _ (cut-no-digit _ _ _ _ _ (at-pre .pre .1 .at) refl _ _ (at-pre .pre .1 .then) no-escape refl _ _
+    told _ _ _ (c .reported4 .result .event) _ _ _ (cut-no-digit _ _ _ (at-pre .pre .1 .at) _ _ (at-pre .pre .1 .then) no-escape refl _ _
     (at-char-at .char-at .ensures) _ _ (at-char-at2 .char-at2 .ensures)
     (rw (at-enum-told2 .enum-told2 .given .1) at (at-nibble .nibble .ensures .0))) (c .reported4 .ensures)
 

@@ -1,5 +1,4 @@
 -- `piece_at` meets its contract, by case.
-use Rattle.decoder.specs.Pieces.{told, cut-run, cut-plain}
 use Rattle.decoder.specs.Plain.{plain-cut}
 use native.Mathlib.Omega.{arith}
 use borrow.Author.Needs.{needs}
@@ -12,38 +11,23 @@ shared-slice-read-b c = search needs
 plain-requires : tie.Need-plain-requires
 plain-requires c κs = search needs
 
-cast-t14 : tie.Need-cast-t14
-cast-t14 c = omega (arith, c .before .plain .ensures (c .if1 .taken) .ascii)
+cast-t9 : tie.Need-cast-t9
+cast-t9 c = omega (arith, c .before .plain .ensures .0 (c .if1 .taken) .small)
 
-add-t15 : tie.Need-add-t15
-add-t15 c = search needs
+add-t10 : tie.Need-add-t10
+add-t10 c = search needs
 
 returns : tie.Need-returns
-returns c = plain-cut _ _ (c .before .before .before .before .pre .1) _ (c .before .plain .ensures (c .if1 .taken))
-
-char-at-requires : tie.Need-char-at-requires
-char-at-requires c κs = search needs
-
-run-end-requires : tie.Need-run-end-requires
-run-end-requires c κs = search needs
-
-reported-requires : tie.Need-reported-requires
-reported-requires c κs = search needs
-
-returns-2 : tie.Need-returns-2
-returns-2 c = told _ _ _ (c .reported .result .event) _ _ _ (cut-run _ _ _ _ _ (c .before .before .before .char-at .ensures) (c .before .before .if2 .taken) _ (c .before .run-end .ensures)) (c .reported .ensures)
+returns c = plain-cut _ _ (c .before .before .before .before .pre .1) _ (c .before .plain .ensures .0 (c .if1 .taken))
 
 escaped-requires : tie.Need-escaped-requires
 escaped-requires c κs =
-    let at-char-at = c .before .before in
-    let at-pre = at-char-at .before .before .before .before .before in
-    (at-pre .pre .0, record { at = rw (c .if3 .taken) at (at-char-at .char-at .ensures) })
+    let at-plain = c .before in
+    let at-pre = at-plain .before .before .before in
+    (at-pre .pre .0, record { is = at-plain .plain .ensures .1 (c .if1 .left); within = at-pre .pre .1 })
 
-returns-3 : tie.Need-returns-3
-returns-3 c = search needs
-
-returns-4 : tie.Need-returns-4
-returns-4 c = cut-plain _ _ _ _ _ (c .before .before .char-at .ensures) (c .before .if2 .left) (c .if3 .left)
+returns-2 : tie.Need-returns-2
+returns-2 c = search needs
 
 pub piece-at-spec : {M : Type 1} → statement M
 piece-at-spec =
@@ -51,13 +35,8 @@ piece-at-spec =
     (tie.spec
     shared-slice-read-b
     plain-requires
-    cast-t14
-    add-t15
+    cast-t9
+    add-t10
     returns
-    char-at-requires
-    run-end-requires
-    reported-requires
-    returns-2
     escaped-requires
-    returns-3
-    returns-4)
+    returns-2)

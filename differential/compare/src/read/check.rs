@@ -1,7 +1,7 @@
 //! One text, lent slices of several lengths.
 
 use crate::{
-    library, mark,
+    accents, library,
     read::{
         answer::{Answer, Lent},
         fault::Fault,
@@ -26,7 +26,7 @@ enum Expected {
 }
 
 pub fn first_difference(text: &str, fault: Option<Fault>, tally: &mut Tally) -> Option<Difference> {
-    let mut run = mark::run(text);
+    let mut run = accents::run(text);
     tally.add_text(&run);
     if let Some(fault) = fault {
         fault.plant(&mut run);

@@ -1,15 +1,20 @@
 //! Planted faults in the reference's answers, to show that the comparison can fail.
 
 use crate::{
+    accents::{STRING_VALUE, VALUE_BITS, value_words},
     read::answer::Answer,
     utf8::{CUT, NOT_ALLOWED},
 };
 use oracle::{End, NODE_WIDTH, Run, Step};
+use std::iter;
 
 const BINARY_EXPR: u32 = 15;
 const PAREN_EXPR: u32 = 17;
 const OPERATOR: u32 = 44;
 const CONST_DECL: u32 = 1;
+const NUMBER_VALUE: u32 = 1;
+/// The least byte that begins a character of two bytes or more.
+const FIRST_OF_TWO: u8 = 0xc0;
 
 #[derive(Debug, Clone, Copy, PartialEq, Eq)]
 pub enum Fault {
@@ -25,6 +30,8 @@ pub enum Fault {
     Operator,
     /// The limbs of a number come in the other order.
     Value,
+    /// The first byte of a character that is not ASCII is missing from its string.
+    Accent,
     /// A missing semicolon is reported where its span ends.
     Report,
     /// An unexpected token is reported as the end of the text.
@@ -41,13 +48,14 @@ pub enum Fault {
     Cut,
 }
 
-pub const FAULTS: [(&str, Fault); 13] = [
+pub const FAULTS: [(&str, Fault); 14] = [
     ("link", Fault::Link),
     ("parent", Fault::Parent),
     ("span", Fault::Span),
     ("flag", Fault::Flag),
     ("operator", Fault::Operator),
     ("value", Fault::Value),
+    ("accent", Fault::Accent),
     ("report", Fault::Report),
     ("detail", Fault::Detail),
     ("place", Fault::Place),
@@ -73,9 +81,7 @@ impl Fault {
                         pass_brackets(&mut words.nodes);
                     }
                     words.reports.chunks_mut(3).for_each(|report| self.plant_in_report(report));
-                    if self == Fault::Value {
-                        turn_numbers(&mut words.values);
-                    }
+                    words.values = each_value(&words.values, |value| self.plant_in_value(value));
                 }
             }
         }
@@ -107,6 +113,21 @@ impl Fault {
         }
     }
 
+    fn plant_in_value(self, value: &[u32]) -> Vec<u32> {
+        let (first, rest) = (value[0], &value[1..]);
+        match (self, first >> VALUE_BITS) {
+            (Fault::Value, NUMBER_VALUE) => {
+                iter::once(first).chain(rest.iter().rev().copied()).collect()
+            }
+            (Fault::Accent, STRING_VALUE) => {
+                let count = (first & ((1 << VALUE_BITS) - 1)) as usize;
+                let bytes = rest.iter().flat_map(|word| word.to_le_bytes()).take(count);
+                value_words(&bytes.filter(|byte| *byte < FIRST_OF_TWO).collect::<Vec<u8>>())
+            }
+            _ => value.to_vec(),
+        }
+    }
+
     fn plant_in_report(self, report: &mut [u32]) {
         match (self, report[0] >> 26) {
             (Fault::Report, 4) => report[1] = report[2],
@@ -127,23 +148,23 @@ fn pass_brackets(nodes: &mut [u32]) {
     }
 }
 
-fn turn_numbers(values: &mut [u32]) {
-    let mut at = 0;
-    while at < values.len() {
-        let (sort, count) = (values[at] >> 30, (values[at] & 0x3fff_ffff) as usize);
-        let length = if sort == 1 { count } else { count.div_ceil(4) };
-        let end = at + 1 + length;
-        if sort == 1 {
-            values[at + 1..end].reverse();
-        }
-        at = end;
+/// The words of values, each put through `change`.
+fn each_value(values: &[u32], change: impl Fn(&[u32]) -> Vec<u32>) -> Vec<u32> {
+    let (mut changed, mut rest) = (Vec::new(), values);
+    while let Some(first) = rest.first() {
+        let count = (first & ((1 << VALUE_BITS) - 1)) as usize;
+        let length = if first >> VALUE_BITS == NUMBER_VALUE { count } else { count.div_ceil(4) };
+        let (value, behind) = rest.split_at(1 + length);
+        changed.extend(change(value));
+        rest = behind;
     }
+    changed
 }
 
 #[cfg(test)]
 mod tests {
     use super::*;
-    use crate::read::lengths::lent_for;
+    use crate::{accents, read::lengths::lent_for};
 
     /// Those to a reading with exactly enough words, and with none for values.
     fn answers(run: &Run) -> Vec<Answer> {
@@ -159,9 +180,9 @@ mod tests {
         for (name, fault) in FAULTS.into_iter().filter(|(_, fault)| *fault != Fault::Cut) {
             let text = match fault {
                 Fault::Depth => deep.as_str(),
-                _ => "const a: b = (c - 18446744073709551618); init { d e } const f = ;",
+                _ => "const a: b = (c - 18446744073709551618 - \"é\"); init { d e } const f = ;",
             };
-            let run = oracle::run(text);
+            let run = accents::run(text);
             let mut planted = run.clone();
             fault.plant(&mut planted);
             let plain = answers(&run);

@@ -34,11 +34,11 @@ returns-4 c =
     let at-if1 = at-plain2 .before in
     let at-plain = at-if1 .before in
     λ e. record {
-      first = at-plain .plain .ensures (unless _ (at-if1 .if1 .left));
-      second = at-plain2 .plain2 .ensures
+      first = at-plain .plain .ensures .0 (unless _ (at-if1 .if1 .left));
+      second = at-plain2 .plain2 .ensures .0
           (unless _ (at-if2 .if2 .left));
-      third = at-plain3 .plain3 .ensures (unless _ (at-if3 .if3 .left));
-      fourth = c .plain4 .ensures e;
+      third = at-plain3 .plain3 .ensures .0 (unless _ (at-if3 .if3 .left));
+      fourth = c .plain4 .ensures .0 e;
     }
 
 pub all-plain-spec : {M : Type 1} → statement M
