@@ -12,8 +12,8 @@ const HEX_STRING: u32 = 71;
 /// and behind it.
 const PASSED: RangeInclusive<u32> = 70..=80;
 const END_BITS: u32 = 25;
-pub const VALUE_BITS: u32 = 30;
-pub const STRING_VALUE: u32 = 2;
+const VALUE_BITS: u32 = 30;
+const STRING_VALUE: u32 = 2;
 
 /// For the record of trees: characters of two, three and four bytes; beside the same bytes by escapes
 /// and digits, free of reports; and where a backslash, `\x` and a `hex"` string take them.
@@ -25,12 +25,21 @@ pub const PARSED: &[&str] = &[
 
 /// What is done with a text.
 pub fn run(text: &str) -> Run {
+    run_with(text, own_bytes)
+}
+
+fn own_bytes(character: char) -> Vec<u8> {
+    character.to_string().into_bytes()
+}
+
+/// The same, where a character that stands for itself in a `"` string has other bytes.
+pub fn run_with(text: &str, bytes_of: fn(char) -> Vec<u8>) -> Run {
     let tokens = spellings(text);
     let plain: Vec<(u32, String)> =
         tokens.iter().map(|token| (token.0, in_letters(*token))).collect();
     let mut run =
         mark::run(&plain.iter().map(|(_, spelling)| spelling.as_str()).collect::<String>());
-    restore(&mut run, &tokens, &plain);
+    restore(&mut run, &tokens, &plain, bytes_of);
     run
 }
 
@@ -101,11 +110,11 @@ fn in_letters((kind, spelling): (u32, &str)) -> String {
 }
 
 /// The bytes of a token.
-fn decoded(kind: u32, spelling: &str) -> Vec<u8> {
+fn decoded(kind: u32, spelling: &str, bytes_of: fn(char) -> Vec<u8>) -> Vec<u8> {
     match kind {
         STRING => parts(spelling)
             .flat_map(|part| match part {
-                Part::Character(c) => c.to_string().into_bytes(),
+                Part::Character(c) => bytes_of(c),
                 Part::Escape(_, byte) => byte.into_iter().collect(),
             })
             .collect(),
@@ -118,30 +127,43 @@ fn decoded(kind: u32, spelling: &str) -> Vec<u8> {
     }
 }
 
+/// The value of a literal of these tokens.
+fn value<'a>(
+    tokens: impl Iterator<Item = (u32, &'a str)>,
+    bytes_of: fn(char) -> Vec<u8>,
+) -> Vec<u32> {
+    let bytes = tokens.flat_map(|(kind, spelling)| decoded(kind, spelling, bytes_of));
+    value_words(&bytes.collect::<Vec<u8>>())
+}
+
 /// Puts what the text's own tokens decode to in the place of each string value. A value is made where
 /// the cursor is past the last token of its literal and what is passed behind it. Its first token is
 /// the nearest from which on the letters decode to the value.
-fn restore(run: &mut Run, tokens: &[(u32, &str)], plain: &[(u32, String)]) {
+fn restore(
+    run: &mut Run,
+    tokens: &[(u32, &str)],
+    plain: &[(u32, String)],
+    bytes_of: fn(char) -> Vec<u8>,
+) {
     let mut values = Vec::new();
     let mut rest = &run.values[..];
     for taken in &run.steps {
         let Step::Value { words } = taken.step else { continue };
-        let Some((value, behind)) = rest.split_at_checked(words) else { break };
+        let Some((made, behind)) = rest.split_at_checked(words) else { break };
         rest = behind;
-        if value[0] >> VALUE_BITS != STRING_VALUE {
-            values.extend(value);
+        if made[0] >> VALUE_BITS != STRING_VALUE {
+            values.extend(made);
             continue;
         }
         let end = tokens.len().min(taken.cursor as usize);
         let is_passed = |start: &usize| PASSED.contains(&tokens[*start].0);
-        let mut starts = (0..end).rev().take_while(is_passed);
         let is_first = |start: &usize| {
-            let all = plain[*start..end].iter().flat_map(|(kind, part)| decoded(*kind, part));
-            value_words(&all.collect::<Vec<u8>>()) == value
+            let letters = plain[*start..end].iter().map(|(kind, part)| (*kind, part.as_str()));
+            value(letters, own_bytes) == made
         };
-        let start = starts.find(is_first).expect("the letters decode to the value");
-        let all = tokens[start..end].iter().flat_map(|(kind, part)| decoded(*kind, part));
-        values.extend(value_words(&all.collect::<Vec<u8>>()));
+        let start = (0..end).rev().take_while(is_passed).find(is_first);
+        let start = start.expect("the letters decode to the value");
+        values.extend(value(tokens[start..end].iter().copied(), bytes_of));
     }
     values.extend(rest);
     run.values.clone_from(&values);
@@ -151,7 +173,7 @@ fn restore(run: &mut Run, tokens: &[(u32, &str)], plain: &[(u32, String)]) {
 }
 
 /// "Bytes four to a word, first lowest, padded with 0", behind their number.
-pub fn value_words(bytes: &[u8]) -> Vec<u32> {
+fn value_words(bytes: &[u8]) -> Vec<u32> {
     let word = |four: &[u8]| four.iter().rev().fold(0, |word, byte| word << 8 | u32::from(*byte));
     let head = STRING_VALUE << VALUE_BITS | bytes.len() as u32;
     iter::once(head).chain(bytes.chunks(4).map(word)).collect()

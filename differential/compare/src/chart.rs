@@ -9,7 +9,7 @@ use crate::{
     run::shown,
 };
 use derive::{Chart, Reading, kind_of};
-use generate::{ParseTexts, script};
+use generate::{ParseTexts, script, short_strings};
 use oracle::Lengths;
 use places::{PLACES, Place, all_spellings};
 use std::process::ExitCode;
@@ -28,8 +28,10 @@ pub fn run(options: &ChartOptions) -> ExitCode {
         rows.all(place.length, true);
         tally.end_of(place.name);
     }
-    generated(&chart, options, &mut tally);
+    all_of(&chart, generated(options), &mut tally);
     tally.end_of("generated");
+    all_of(&chart, short_strings(), &mut tally);
+    tally.end_of("short strings");
     tally.end()
 }
 
@@ -69,7 +71,10 @@ impl Tally {
     }
 
     fn end(&self) -> ExitCode {
-        println!("{} texts skipped: a string with a backslash, or too deep", self.skipped);
+        println!(
+            "{} texts skipped: a string with a backslash or other than pairs of digits, or too deep",
+            self.skipped
+        );
         let Tally { rows, derived, differences, .. } = self;
         println!("{rows} rows, {derived} derived, {differences} differences");
         if *differences > 0 { ExitCode::FAILURE } else { ExitCode::SUCCESS }
@@ -135,13 +140,17 @@ impl<'a, 't> Rows<'a, 't> {
     }
 }
 
-fn generated(chart: &Chart, options: &ChartOptions, tally: &mut Tally) {
+fn generated(options: &ChartOptions) -> impl Iterator<Item = String> {
     let mut rng = generate::Rng::new(options.seed);
-    let scripts = (0..options.texts / 2).map(|_| script(&mut rng));
+    let scripts = (0..options.texts / 2).map(move |_| script(&mut rng));
     let others = ParseTexts::new(options.seed).take(options.texts / 2);
     let marked = ParseTexts::new(options.seed).take(options.texts / 8);
     let marked = marked.map(|text| format!("{}{text}", mark::MARK));
-    for text in scripts.chain(others).chain(marked) {
+    scripts.chain(others).chain(marked)
+}
+
+fn all_of(chart: &Chart, texts: impl Iterator<Item = String>, tally: &mut Tally) {
+    for text in texts {
         let answer = read(&text);
         match row_of(&text).filter(|_| answer.number != 3) {
             Some(row) => tally.add(&text, chart.derives(&row), &answer),

@@ -20,7 +20,7 @@ pub use parsing::ParseTexts;
 pub use rng::Rng;
 pub use rows::short_rows;
 pub use script::{damaged_script, script};
-pub use short::{short_byte_texts, short_texts};
+pub use short::{short_byte_texts, short_strings, short_texts};
 pub use sized::{behind_mark, long_texts, texts_around_the_limit};
 pub use soup::TOKENS;
 

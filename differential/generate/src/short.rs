@@ -11,6 +11,9 @@ const NARROW: [char; 36] = [
 const NON_ASCII: [char; 8] =
     ['\u{80}', 'é', '\u{7ff}', '\u{800}', '\u{feff}', '\u{ffff}', '\u{10000}', '\u{10ffff}'];
 
+/// A character for each way in which strings.rs may decode one, and one of each length in UTF-8.
+const IN_STRINGS: [char; 8] = ['g', '4', 'x', 'n', '\\', 'é', '木', '𝄞'];
+
 /// The edges of the byte ranges in RFC 3629's table, and an ASCII byte.
 const EDGE_BYTES: [u8; 24] = [
     0x41, 0x7f, 0x80, 0x8f, 0x90, 0x9f, 0xa0, 0xbf, 0xc0, 0xc1, 0xc2, 0xdf, 0xe0, 0xe1, 0xec, 0xed,
@@ -34,6 +37,15 @@ pub fn short_byte_texts() -> impl Iterator<Item = Vec<u8>> {
     let all = (0..=255).collect::<Vec<u8>>();
     let up_to_two = (0..=2).flat_map(move |length| words(all.clone(), length));
     up_to_two.chain(words(EDGE_BYTES.to_vec(), 3)).chain(words(EDGE_BYTES.to_vec(), 4))
+}
+
+/// A constant for each `"` string of up to five characters and each `hex"` string of up to four.
+pub fn short_strings() -> impl Iterator<Item = String> {
+    let up_to = |longest| (0..=longest).flat_map(|length| words(IN_STRINGS.to_vec(), length));
+    let text = |opening: &str, body: Vec<char>| {
+        format!("const z = {opening}{}\";", body.into_iter().collect::<String>())
+    };
+    up_to(5).map(move |body| text("\"", body)).chain(up_to(4).map(move |body| text("hex\"", body)))
 }
 
 /// All rows of this length over an alphabet.

@@ -1,6 +1,6 @@
 use generate::{
     ParseTexts, Rng, TOKENS, Texts, long_texts, nests, script, short_byte_texts, short_rows,
-    short_texts, texts_around_the_limit,
+    short_strings, short_texts, texts_around_the_limit,
 };
 use oracle::{End, NODE_WIDTH};
 use std::collections::HashSet;
@@ -116,7 +116,8 @@ fn nests_meet_the_depth_from_both_sides() {
 }
 
 #[test]
-fn rows_and_long_texts() {
+fn rows_strings_and_long_texts() {
     assert_eq!(short_rows().count(), 46 * (1 + 54 + 54 * 54));
+    assert_eq!(short_strings().count(), (8_usize.pow(6) - 1) / 7 + (8_usize.pow(5) - 1) / 7);
     assert!(long_texts().all(|text| (65_000..=65_536).contains(&text.len())));
 }

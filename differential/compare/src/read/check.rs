@@ -26,11 +26,8 @@ enum Expected {
 }
 
 pub fn first_difference(text: &str, fault: Option<Fault>, tally: &mut Tally) -> Option<Difference> {
-    let mut run = accents::run(text);
+    let run = fault.map_or_else(|| accents::run(text), |fault| fault.run(text));
     tally.add_text(&run);
-    if let Some(fault) = fault {
-        fault.plant(&mut run);
-    }
     let mut all = all_lent(text, &run).into_iter();
     let difference = all.find_map(|lent| difference_at(text, &run, lent, fault, tally));
     difference.or_else(|| difference_in_start(text, &run))

@@ -1,20 +1,16 @@
 //! Planted faults in the reference's answers, to show that the comparison can fail.
 
 use crate::{
-    accents::{STRING_VALUE, VALUE_BITS, value_words},
+    accents,
     read::answer::Answer,
     utf8::{CUT, NOT_ALLOWED},
 };
 use oracle::{End, NODE_WIDTH, Run, Step};
-use std::iter;
 
 const BINARY_EXPR: u32 = 15;
 const PAREN_EXPR: u32 = 17;
 const OPERATOR: u32 = 44;
 const CONST_DECL: u32 = 1;
-const NUMBER_VALUE: u32 = 1;
-/// The least byte that begins a character of two bytes or more.
-const FIRST_OF_TWO: u8 = 0xc0;
 
 #[derive(Debug, Clone, Copy, PartialEq, Eq)]
 pub enum Fault {
@@ -66,7 +62,17 @@ pub const FAULTS: [(&str, Fault); 14] = [
 ];
 
 impl Fault {
-    pub fn plant(self, run: &mut Run) {
+    /// What is done with a text where the reference has this fault.
+    pub fn run(self, text: &str) -> Run {
+        let mut run = match self {
+            Fault::Accent => accents::run_with(text, without_first_byte),
+            _ => accents::run(text),
+        };
+        self.plant(&mut run);
+        run
+    }
+
+    fn plant(self, run: &mut Run) {
         match self {
             Fault::Place => {
                 let values =
@@ -81,7 +87,9 @@ impl Fault {
                         pass_brackets(&mut words.nodes);
                     }
                     words.reports.chunks_mut(3).for_each(|report| self.plant_in_report(report));
-                    words.values = each_value(&words.values, |value| self.plant_in_value(value));
+                    if self == Fault::Value {
+                        turn_numbers(&mut words.values);
+                    }
                 }
             }
         }
@@ -113,21 +121,6 @@ impl Fault {
         }
     }
 
-    fn plant_in_value(self, value: &[u32]) -> Vec<u32> {
-        let (first, rest) = (value[0], &value[1..]);
-        match (self, first >> VALUE_BITS) {
-            (Fault::Value, NUMBER_VALUE) => {
-                iter::once(first).chain(rest.iter().rev().copied()).collect()
-            }
-            (Fault::Accent, STRING_VALUE) => {
-                let count = (first & ((1 << VALUE_BITS) - 1)) as usize;
-                let bytes = rest.iter().flat_map(|word| word.to_le_bytes()).take(count);
-                value_words(&bytes.filter(|byte| *byte < FIRST_OF_TWO).collect::<Vec<u8>>())
-            }
-            _ => value.to_vec(),
-        }
-    }
-
     fn plant_in_report(self, report: &mut [u32]) {
         match (self, report[0] >> 26) {
             (Fault::Report, 4) => report[1] = report[2],
@@ -135,6 +128,14 @@ impl Fault {
             _ => {}
         }
     }
+}
+
+fn without_first_byte(character: char) -> Vec<u8> {
+    let mut bytes = character.to_string().into_bytes();
+    if !character.is_ascii() {
+        bytes.remove(0);
+    }
+    bytes
 }
 
 /// The parent's parent, where the parent is a ParenExpr.
@@ -148,23 +149,23 @@ fn pass_brackets(nodes: &mut [u32]) {
     }
 }
 
-/// The words of values, each put through `change`.
-fn each_value(values: &[u32], change: impl Fn(&[u32]) -> Vec<u32>) -> Vec<u32> {
-    let (mut changed, mut rest) = (Vec::new(), values);
-    while let Some(first) = rest.first() {
-        let count = (first & ((1 << VALUE_BITS) - 1)) as usize;
-        let length = if first >> VALUE_BITS == NUMBER_VALUE { count } else { count.div_ceil(4) };
-        let (value, behind) = rest.split_at(1 + length);
-        changed.extend(change(value));
-        rest = behind;
+fn turn_numbers(values: &mut [u32]) {
+    let mut at = 0;
+    while at < values.len() {
+        let (sort, count) = (values[at] >> 30, (values[at] & 0x3fff_ffff) as usize);
+        let length = if sort == 1 { count } else { count.div_ceil(4) };
+        let end = at + 1 + length;
+        if sort == 1 {
+            values[at + 1..end].reverse();
+        }
+        at = end;
     }
-    changed
 }
 
 #[cfg(test)]
 mod tests {
     use super::*;
-    use crate::{accents, read::lengths::lent_for};
+    use crate::read::lengths::lent_for;
 
     /// Those to a reading with exactly enough words, and with none for values.
     fn answers(run: &Run) -> Vec<Answer> {
@@ -182,9 +183,7 @@ mod tests {
                 Fault::Depth => deep.as_str(),
                 _ => "const a: b = (c - 18446744073709551618 - \"é\"); init { d e } const f = ;",
             };
-            let run = accents::run(text);
-            let mut planted = run.clone();
-            fault.plant(&mut planted);
+            let (run, planted) = (accents::run(text), fault.run(text));
             let plain = answers(&run);
             let mut changed = answers(&planted);
             changed.iter_mut().for_each(|answer| fault.plant_in_answer(&run.tokens, answer));

@@ -11,7 +11,7 @@ use crate::{
     run::{Run, in_a_thread},
 };
 use generate::{
-    NameTexts, ParseTexts, Texts, behind_mark, long_texts, nests, short_rows,
+    NameTexts, ParseTexts, Texts, behind_mark, long_texts, nests, short_rows, short_strings,
     texts_around_the_limit,
 };
 use std::{fmt, iter, process::ExitCode};
@@ -34,6 +34,7 @@ fn run_all(options: &ReadOptions) -> ExitCode {
     all("generated", &mut generated.map(String::into_bytes));
     all("nests", &mut nests().map(String::into_bytes));
     all("short rows", &mut short_rows().map(String::into_bytes));
+    all("short strings", &mut short_strings().map(String::into_bytes));
     let named = NameTexts::new(options.seed).take(options.texts / 500);
     all("with many names", &mut named.map(String::into_bytes));
     let limit_texts = texts_around_the_limit();
