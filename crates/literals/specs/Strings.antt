@@ -82,7 +82,8 @@ twoDigits (d ∷ e ∷ cs) =
       | none ↦ none
     ]
 
--- A backslash at the offset `at`, and the characters after it. "A bad `\x` has already taken two characters, or as many as are left" (01, strings.rs).
+-- A backslash at the offset `at`, and the characters after it: `one` is where the first of them ends, `three` where the third does or the last that is
+-- left. "A bad `\x` has already taken two characters, or as many as are left" (01, strings.rs).
 -- A backslash at the end, where the Rust panics, is a report over its one byte (01, Known exceptions).
 unfoldable pub escaped : ℕ → List Char → Piece
 escaped at [] = piece (report Report.BackslashAtEnd 0 (span at (at + 1))) (at + 1)
@@ -98,7 +99,7 @@ escaped at (e ∷ cs) =
     ]
 
 -- What stands between the quotes of a `"` token, from the offset `at` on; its first `taken` bytes belong to the escape before. "non-ASCII characters
--- now stand in the value as their UTF-8 bytes, without a report" (01, W7): each byte but a backslash stands for itself.
+-- now stand in the value as their UTF-8 bytes, without a report" (01, W7): each byte but a backslash stands for itself. No byte of a longer character is one.
 unfoldable pub decodedFrom : ℕ → ℕ → List ℕ → List Event
 decodedFrom at taken [] = []
 decodedFrom at (suc taken) (b ∷ s) = decodedFrom (at + 1) taken s

@@ -30,6 +30,8 @@ pub fn run(options: &ChartOptions) -> ExitCode {
     }
     all_of(&chart, generated(options), &mut tally);
     tally.end_of("generated");
+    all_of(&chart, marked(options), &mut tally);
+    tally.end_of("with a mark in front");
     all_of(&chart, short_strings(), &mut tally);
     tally.end_of("short strings");
     tally.end()
@@ -143,10 +145,12 @@ impl<'a, 't> Rows<'a, 't> {
 fn generated(options: &ChartOptions) -> impl Iterator<Item = String> {
     let mut rng = generate::Rng::new(options.seed);
     let scripts = (0..options.texts / 2).map(move |_| script(&mut rng));
-    let others = ParseTexts::new(options.seed).take(options.texts / 2);
-    let marked = ParseTexts::new(options.seed).take(options.texts / 8);
-    let marked = marked.map(|text| format!("{}{text}", mark::MARK));
-    scripts.chain(others).chain(marked)
+    scripts.chain(ParseTexts::new(options.seed).take(options.texts / 2))
+}
+
+fn marked(options: &ChartOptions) -> impl Iterator<Item = String> {
+    let texts = ParseTexts::new(options.seed).take(options.texts / 8);
+    texts.map(|text| format!("{}{text}", mark::MARK))
 }
 
 fn all_of(chart: &Chart, texts: impl Iterator<Item = String>, tally: &mut Tally) {
