@@ -86,8 +86,9 @@ fn difference_in_start(text: &str, run: &Run) -> Option<Difference> {
                 && found.tokens == run.tokens
                 && found.values.starts_with(&run.values)
                 && found.reports.starts_with(&reports);
-            let is_refused = exception == Exception::Fuel && found.number == 3;
-            if found.stayed_inside && (goes_on || is_refused && found.place >= run.cursor) {
+            // What follows may be too deep.
+            let is_refused = found.number == 3 && found.place >= run.cursor;
+            if found.stayed_inside && (goes_on || is_refused) {
                 return None;
             }
             format!("values {:?} and reports {reports:?} at first", run.values)
@@ -179,5 +180,19 @@ fn show_words(
             let (expected, found) = (expected[at], found[at]);
             writeln!(f, "  {sort} word {at}: expected {expected:#010x}, found {found:#010x}")
         }
+    }
+}
+
+#[cfg(test)]
+mod tests {
+    use super::{End, Exception, Tally, accents, first_difference};
+
+    #[test]
+    fn what_follows_a_panic_may_be_too_deep() {
+        let text = format!("init {}\"\\x1\\\\\"{}", "{".repeat(120), "(".repeat(60));
+        let End::Panicked(message) = accents::run(&text).end else { panic!("no panic") };
+        assert_eq!(Exception::of(&message), Some(Exception::Backslash));
+        let mut tally = Tally::default();
+        assert!(first_difference(&text, None, &mut tally).is_none());
     }
 }
