@@ -20,7 +20,7 @@ pub enum Lexed {
 }
 
 // A word stored where there is room for it.
-fn put(words: &mut [u32], n: usize, word: u32)
+pub fn put(words: &mut [u32], n: usize, word: u32)
     ensures { λ _. ⌜ now (words .exit) ≡ set (now (words .entry)) n word ⌝ }
 {
     if n < words.len() {
@@ -59,7 +59,7 @@ fn fill_from(text: &[u8], words: &mut [u32], start: usize, first: usize) -> usiz
 }
 
 // Puts the word of a byte order mark in front, which is a token by itself; tells how many such tokens there are.
-fn put_mark(text: &[u8], words: &mut [u32]) -> usize
+pub fn put_mark(text: &[u8], words: &mut [u32]) -> usize
     ensures { λ r. ⌜ (r ≡ length (marks (now (text .entry)))) × (now (words .exit) ≡ sets (now (words .entry)) 0 (map word (marks (now (text .entry))))) ⌝ }
 {
     if scan::has_mark(text) {
@@ -79,7 +79,7 @@ fn fill(text: &[u8], words: &mut [u32]) -> usize
 }
 
 // The number of the refusal of a text that isn't UTF-8, by the way in which it isn't.
-fn not_utf8(way: Way) -> u32
+pub fn not_utf8(way: Way) -> u32
     ensures { λ r. ⌜ r ≡ notUtf8 way ⌝ }
 {
     match way {

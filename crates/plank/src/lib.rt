@@ -49,7 +49,7 @@ pub fn read(
 ) -> Outcome
     ensures { λ r. ⌜ (given r (now (tokens .exit)) (now (nodes .exit)) (now (values .exit)) (now (reports .exit)) ≡ reads (now (text .entry)) (lent (now (tokens .entry)) (now (nodes .entry)) (now (values .entry)) (now (reports .entry)))) × Agrees (now (text .entry)) (given r (now (tokens .exit)) (now (nodes .exit)) (now (values .exit)) (now (reports .exit))) ⌝ }
 {
-    match lexer::lex(text, tokens) {
+    match tables::lex(text, tokens) {
         Lexed::Tokens(n) => parse_lexed(text, tokens, nodes, values, reports, n),
         Lexed::Refused(number, place) => {
             parser::clear(nodes);
@@ -64,5 +64,5 @@ pub fn read(
 pub fn lex(text: &[u8], tokens: &mut [u32]) -> Lexed
     ensures { λ r. ⌜ (answer r ≡ lexed (now (text .entry)) (length (now (tokens .entry)))) × (now (tokens .exit) ≡ lexedWords (now (text .entry)) (length (now (tokens .entry)))) ⌝ }
 {
-    lexer::lex(text, tokens)
+    tables::lex(text, tokens)
 }

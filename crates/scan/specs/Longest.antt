@@ -311,12 +311,21 @@ outside (x ∷ xs) b a (next f o) h e = go (eqb a x) refl h (λ k. outside xs b 
     go true g k r = f (e ∙ eqb-true a x g)
     go false g k r = r k
 
-same-head : (w v : List ℕ) → same w v ≡ true → getD w 0 0 ≡ getD v 0 0
+pub same-head : (w v : List ℕ) → same w v ≡ true → getD w 0 0 ≡ getD v 0 0
 unfolding same
 same-head [] [] e = refl
 same-head [] (b ∷ v) e = absurd (false≢true e)
 same-head (a ∷ w) [] e = absurd (false≢true e)
 same-head (a ∷ w) (b ∷ v) e = eqb-true a b (and-both (eqb a b) (same w v) e .0)
+
+pub same-equal : (w v : List ℕ) → same w v ≡ true → w ≡ v
+unfolding same
+same-equal [] [] e = refl
+same-equal [] (b ∷ v) e = absurd (false≢true e)
+same-equal (a ∷ w) [] e = absurd (false≢true e)
+same-equal (a ∷ w) (b ∷ v) e =
+    let h = and-both (eqb a b) (same w v) e in
+    rw (eqb-true a b (h .0), same-equal w v (h .1))
 
 kind-outside : (heads : List ℕ) (fs : List Fixed) (b : ℕ) (v : List ℕ) → covered heads fs ≡ true → b ≡ getD v 0 0 → Outside b heads → TokenKind.Identifier ≡ kindIn fs v
 unfolding kindIn
