@@ -125,10 +125,24 @@ pub(crate) fn is_recorded(words: &[u32], recorded: &[u8]) -> bool {
     true
 }
 
+// The lexer that goes by tables, or the branching one.
+fn lex(branching: bool, text: &[u8], tokens: &mut [u32]) -> Lexed {
+    if branching {
+        return lexer::lex(text, tokens);
+    }
+    plank::lex(text, tokens)
+}
+
 // Whether the lexer gives the recorded tokens where they fit.
-fn is_given(text: &[u8], recorded: &[u8], count: usize, tokens: &mut [u32]) -> bool {
+fn is_given(
+    branching: bool,
+    text: &[u8],
+    recorded: &[u8],
+    count: usize,
+    tokens: &mut [u32],
+) -> bool {
     mark(tokens);
-    match lexer::lex(text, tokens) {
+    match lex(branching, text, tokens) {
         Lexed::Tokens(n) => {
             if n == count {
                 is_recorded(tokens, recorded)
@@ -141,9 +155,9 @@ fn is_given(text: &[u8], recorded: &[u8], count: usize, tokens: &mut [u32]) -> b
 }
 
 // Whether the lexer refuses with this number and place, and leaves 0 in every word.
-fn is_refused(text: &[u8], number: u32, place: usize, tokens: &mut [u32]) -> bool {
+fn is_refused(branching: bool, text: &[u8], number: u32, place: usize, tokens: &mut [u32]) -> bool {
     mark(tokens);
-    match lexer::lex(text, tokens) {
+    match lex(branching, text, tokens) {
         Lexed::Tokens(_) => false,
         Lexed::Refused(by, at) => {
             if by != number {
@@ -158,37 +172,56 @@ fn is_refused(text: &[u8], number: u32, place: usize, tokens: &mut [u32]) -> boo
 }
 
 // Whether the lexer refuses as recorded, with no words and with plenty.
-fn is_always_refused(text: &[u8], recorded: &[u8], tokens: &mut [u32]) -> bool {
+fn is_always_refused(branching: bool, text: &[u8], recorded: &[u8], tokens: &mut [u32]) -> bool {
     let number = word_at(recorded, 0);
     let place = word_at(recorded, 1) as usize;
-    if !is_refused(text, number, place, &mut tokens[..0]) {
+    if !is_refused(branching, text, number, place, &mut tokens[..0]) {
         return false;
     }
-    is_refused(text, number, place, tokens)
+    is_refused(branching, text, number, place, tokens)
 }
 
 // Whether the lexer answers as recorded with exactly as many words as needed, one more, one less, and none.
-fn is_same(text: &[u8], recorded: &[u8], count: usize, tokens: &mut [u32]) -> bool {
+fn is_same(
+    branching: bool,
+    text: &[u8],
+    recorded: &[u8],
+    count: usize,
+    tokens: &mut [u32],
+) -> bool {
     if count == 0 {
-        return is_always_refused(text, recorded, tokens);
+        return is_always_refused(branching, text, recorded, tokens);
     }
     if tokens.len() <= count {
         return false;
     }
-    if !is_given(text, recorded, count, &mut tokens[..count]) {
+    if !is_given(branching, text, recorded, count, &mut tokens[..count]) {
         return false;
     }
     let more = count + 1;
-    if !is_given(text, recorded, count, &mut tokens[..more]) {
+    if !is_given(branching, text, recorded, count, &mut tokens[..more]) {
         return false;
     }
     let less = count - 1;
-    if !is_refused(text, refusal::TOKENS_DONT_FIT, count, &mut tokens[..less]) {
+    if !is_refused(
+        branching,
+        text,
+        refusal::TOKENS_DONT_FIT,
+        count,
+        &mut tokens[..less],
+    ) {
         return false;
     }
-    is_refused(text, refusal::TOKENS_DONT_FIT, count, &mut tokens[..0])
+    is_refused(
+        branching,
+        text,
+        refusal::TOKENS_DONT_FIT,
+        count,
+        &mut tokens[..0],
+    )
 }
 
+// Both lexers are held to the record.
 fn is_record_same(file: &[u8], r: Record, tokens: &mut [u32]) -> bool
     requires { ⌜ Within r (length (now file)) ⌝ }
 {
@@ -196,7 +229,16 @@ fn is_record_same(file: &[u8], r: Record, tokens: &mut [u32]) -> bool
     let end = r.end;
     let words = r.words;
     let next = r.next;
-    is_same(&file[start..end], &file[words..next], r.count, tokens)
+    if !is_same(
+        false,
+        &file[start..end],
+        &file[words..next],
+        r.count,
+        tokens,
+    ) {
+        return false;
+    }
+    is_same(true, &file[start..end], &file[words..next], r.count, tokens)
 }
 
 fn replay_record(file: &[u8], at: usize, tokens: &mut [u32]) -> Turn {

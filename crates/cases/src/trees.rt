@@ -143,7 +143,7 @@ fn is_tree_same(
     values: &mut [u32],
     reports: &mut [u32],
 ) -> bool {
-    match lexer::lex(part(file, tree.text, tree.text_end), tokens) {
+    match plank::lex(part(file, tree.text, tree.text_end), tokens) {
         Lexed::Tokens(n) => {
             if tokens.len() < n {
                 return false;

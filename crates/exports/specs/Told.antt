@@ -1,8 +1,8 @@
 -- What reading for C and Rust returns and writes.
 use mathlib.Core.Path.{_≡_, sym, _∙_, ap}
 use mathlib.Core.List.{List}
-use Prim.Native.Nat.{ℕ}
-use Rattle.words.specs.Answer.{Answer}
+use Prim.Native.Nat.{ℕ, _<_, _^_}
+use Rattle.words.specs.Answer.{Answer, refused}
 use Rattle.codes.specs.Coded.{outcome, counted}
 use Rattle.reader.specs.Read.{Read}
 use Rattle.plank.specs.declared.Outcome.{Outcome}
@@ -29,3 +29,7 @@ told {lent = lent} e h n c =
       reports-are = ap (λ (x : Read). x .reports) e;
       counts-are = c ∙ ap (λ (x : Answer). counted x lent) a;
     }
+
+-- Where it is a refusal, its place fits 32 bits.
+abbrev pub Placed : Answer → Type 0
+Placed a = (number place : ℕ) → refused number place ≡ a → place < 2 ^ 32

@@ -1,24 +1,40 @@
 // The library for programs in C and Rust: plain numbers and slices.
 ghost use mathlib.Core.Path.{_≡_};
 ghost use lib.ListN.{length};
-ghost use Rattle.lexer.specs.Lex.{lexed, lexedWords};
+ghost use Rattle.lexer.specs.Lex.{answer, lexed, lexedWords};
 ghost use Rattle.reader.specs.Read.{reads};
 ghost use Rattle.codes.specs.Coded.{coded, viewed, spanned, bounds};
 ghost use Rattle.accessors.specs.Views.{numberView, spanView, countView};
 ghost use Rattle.plank.specs.Reads.{lent};
-ghost use Rattle.exports.specs.Told.{Told};
+ghost use Rattle.exports.specs.Told.{Told, Placed};
 use lexer::Lexed;
 use plank::Outcome;
+
+// The number of tokens, or a refusal's number times 2 to the 32nd and its place.
+fn lexed_code(lexed: Lexed) -> u64
+    requires { ⌜ Placed (answer lexed) ⌝ }
+    ensures { λ r. ⌜ r ≡ coded (answer lexed) ⌝ }
+{
+    match lexed {
+        Lexed::Tokens(n) => n as u64,
+        Lexed::Refused(number, place) => codes::refusal_code(number, place as u32),
+    }
+}
 
 // `plank::lex`: the number of tokens, or a refusal's number times 2 to the 32nd and its place.
 #[no_mangle]
 pub extern "C" fn plank_lex(text: &[u8], tokens: &mut [u32]) -> u64
     ensures { λ r. ⌜ (r ≡ coded (lexed (now (text .entry)) (length (now (tokens .entry))))) × (now (tokens .exit) ≡ lexedWords (now (text .entry)) (length (now (tokens .entry)))) ⌝ }
 {
-    match plank::lex(text, tokens) {
-        Lexed::Tokens(n) => n as u64,
-        Lexed::Refused(number, place) => codes::refusal_code(number, place as u32),
-    }
+    lexed_code(plank::lex(text, tokens))
+}
+
+// The same by the branching lexer, for those who compare the two.
+#[no_mangle]
+pub extern "C" fn plank_lex_branching(text: &[u8], tokens: &mut [u32]) -> u64
+    ensures { λ r. ⌜ (r ≡ coded (lexed (now (text .entry)) (length (now (tokens .entry))))) × (now (tokens .exit) ≡ lexedWords (now (text .entry)) (length (now (tokens .entry)))) ⌝ }
+{
+    lexed_code(lexer::lex(text, tokens))
 }
 
 // `plank::read`: 0, and the counts of tokens, nodes, value words and reports in `counts`, where it has four words; or a refusal's number

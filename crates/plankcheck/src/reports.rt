@@ -139,7 +139,7 @@ pub(crate) fn summary(name: &[u8], count: usize) {
 
 // Where a token starts. A refusal leaves no tokens, so the text is lexed once more.
 fn start_of_token(text: &[u8], tokens: &mut [u32], token: u32) -> usize {
-    match lexer::lex(text, tokens) {
+    match plank::lex(text, tokens) {
         Lexed::Tokens(_) => tree::token_start(tokens, token),
         Lexed::Refused(_, _) => 0,
     }

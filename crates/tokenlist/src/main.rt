@@ -37,7 +37,7 @@ fn print_tokens(tokens: &[u32]) {
 }
 
 fn list(text: &[u8], tokens: &mut [u32]) {
-    match lexer::lex(text, tokens) {
+    match tables::lex(text, tokens) {
         Lexed::Tokens(n) => {
             io::write_all(STDOUT_FILENO, b"tokens ");
             print_number(n, b"\n");
