@@ -1,6 +1,6 @@
 #!/usr/bin/env bash
 # Checks what no proof sees: quotations, the list of what is believed, numbers that stand in several places, that must-fail edits fit
-# their files. Then reports what is unused.
+# their files, that the tables are laid out as they are. Then reports what is unused.
 # An argument names the folder of the Rust parser's sources, as for consts.py. The last line says how many checks passed and failed.
 set -u
 tools="$(cd "$(dirname "$0")" && pwd)"
@@ -20,6 +20,7 @@ check quotations.py
 check closure.py
 check consts.py "$@"
 check edits.py
+check layout.py
 echo "== unused.py"
 python3 "$tools/unused.py" | tail -n 1
 echo "$passed passed, $failed failed"

@@ -19,6 +19,7 @@ ROOT = os.path.dirname(os.path.dirname(os.path.abspath(__file__)))
 ELSEWHERE = [
     ("crates/utf8/", r".*", "RFC 3629"),
     ("crates/position/", r".*", "texts that are looked at"),
+    ("crates/tables/src/", r".*", "bytes, as the tables name them"),
     ("crates/", r"[A-Z \-()]+", "headings of parser/mod.rs"),
     ("crates/expr/", r"ParenExpr nodes are transparently peeled", "ast/expr.rs"),
 ]
