@@ -9,10 +9,10 @@
  *   PLANK_TOKEN_.., PLANK_NODE_.., ..          the numbers
  * All of these may be given a null pointer with length 0, and answer a null pointer with a length above 0, slices
  * that overlap and lengths that no memory has by a number of their own (enum plank_misuses). The library's own
- * symbols are plank_lex, plank_read, plank_view, plank_view_span and plank_view_count. They are proved for all
- * slices, but a slice is a promise of the caller's: pointers that aren't null, are aligned and stand for so much
- * memory, and none that is written overlapping another. The checked functions keep that promise where it can be
- * checked.
+ * symbols are plank_lex, plank_lex_branching, plank_read, plank_view, plank_view_span and plank_view_count. They are
+ * proved for all slices, but a slice is a promise of the caller's: pointers that aren't null, are aligned and stand
+ * for so much memory, and none that is written overlapping another. The checked functions keep that promise where it
+ * can be checked.
  *
  * Who owns what: the caller owns all memory. The library allocates nothing, keeps no pointer after it returns, has no
  * state, and may be called from several threads at once. A text is only read; it needs no 0 at its end. Reading the
@@ -477,6 +477,9 @@ static inline uint32_t plank_place(uint64_t answer) {
  * or 4, which leaves all of `tokens` 0. */
 uint64_t plank_lex(const uint8_t *text, size_t text_len, uint32_t *tokens, size_t tokens_len);
 
+/* The same answers by the branching lexer, where plank_lex lexes from tables: for those who compare the two. */
+uint64_t plank_lex_branching(const uint8_t *text, size_t text_len, uint32_t *tokens, size_t tokens_len);
+
 /* Reads a text. 0, and the four slices written, each with 0 behind what was made, and in `counts`, if it has four
  * numbers, how many tokens, nodes, value words and reports there are. Or a refusal from 1 to 7, 9 or 10, which
  * leaves all of the four slices 0 and `counts` as it was. */
@@ -589,15 +592,28 @@ static inline uint64_t plank_check_lent(const uint8_t *text, size_t text_len, co
     return misuse;
 }
 
-/* plank_lex: the number of tokens, a refusal or a misuse. */
-static inline uint64_t plank_checked_lex(const uint8_t *text, size_t text_len, struct plank_words tokens) {
+/* plank_lex or plank_lex_branching. */
+typedef uint64_t plank_lexer(const uint8_t *text, size_t text_len, uint32_t *tokens, size_t tokens_len);
+
+static inline uint64_t plank_checked_lex_by(plank_lexer *lexer, const uint8_t *text, size_t text_len,
+                                            struct plank_words tokens) {
     uint32_t nowhere = 0; /* stands for a null pointer of length 0 */
     uint64_t misuse = plank_check_lent(text, text_len, &tokens, 1);
     if (misuse != 0) {
         return misuse;
     }
-    return plank_lex(text == NULL ? (const uint8_t *)&nowhere : text, text_len,
-                     tokens.words == NULL ? &nowhere : tokens.words, tokens.len);
+    return lexer(text == NULL ? (const uint8_t *)&nowhere : text, text_len,
+                 tokens.words == NULL ? &nowhere : tokens.words, tokens.len);
+}
+
+/* plank_lex: the number of tokens, a refusal or a misuse. */
+static inline uint64_t plank_checked_lex(const uint8_t *text, size_t text_len, struct plank_words tokens) {
+    return plank_checked_lex_by(plank_lex, text, text_len, tokens);
+}
+
+/* plank_lex_branching: the same. */
+static inline uint64_t plank_checked_lex_branching(const uint8_t *text, size_t text_len, struct plank_words tokens) {
+    return plank_checked_lex_by(plank_lex_branching, text, text_len, tokens);
 }
 
 /* plank_read: 0, a refusal or a misuse. `counts` may be null; unless the answer is 0 all of its numbers are 0. */

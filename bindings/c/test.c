@@ -126,6 +126,32 @@ static void test_refusals(void) {
     CHECK(plank_refusal(answer) == PLANK_REFUSAL_TOKENS_DONT_FIT && plank_place(answer) > 3);
 }
 
+/* Both lexers give the same answer, with this refusal or none (0), and leave the same words. */
+static void check_lexers(const char *text, size_t len, size_t lent, uint32_t refusal) {
+    static uint32_t others[WORDS];
+    uint64_t answer;
+    memset(tokens, 0xa5, sizeof tokens);
+    memset(others, 0xa5, sizeof others);
+    answer = plank_checked_lex((const uint8_t *)text, len, words(tokens, lent));
+    CHECK(plank_refusal(answer) == refusal);
+    CHECK(plank_checked_lex_branching((const uint8_t *)text, len, words(others, lent)) == answer);
+    CHECK(memcmp(tokens, others, sizeof tokens) == 0);
+}
+
+static void test_lexers(void) {
+    static const char bad_tokens[] = "0xg 1_0 a\xc3\xa9 @ \"a\n/* /* */";
+    static char too_long[PLANK_MAX_TEXT + 1];
+    check_lexers(SCRIPT, LEN, WORDS, 0);
+    check_lexers(bad_tokens, sizeof bad_tokens - 1, WORDS, 0);
+    check_lexers("", 0, 1, 0);
+    check_lexers("a\xff", 2, WORDS, PLANK_REFUSAL_NOT_UTF8_START);
+    check_lexers(too_long, sizeof too_long, WORDS, PLANK_REFUSAL_TOO_LONG);
+    check_lexers(SCRIPT, LEN, 3, PLANK_REFUSAL_TOKENS_DONT_FIT);
+    check_lexers("", 0, 0, PLANK_REFUSAL_TOKENS_DONT_FIT);
+    check_lexers("a\xe2\x82" "b", 4, WORDS, PLANK_REFUSAL_NOT_UTF8_LATER);
+    check_lexers("a\xe2\x82", 3, WORDS, PLANK_REFUSAL_NOT_UTF8_CUT);
+}
+
 static void test_altered_words(void) {
     uint64_t answer;
     CHECK(read_script(NULL) == 0);
@@ -280,6 +306,7 @@ static void test_empty(void) {
     struct plank_value value;
     uint64_t answer;
     CHECK(plank_checked_lex(NULL, 0, words(tokens, 1)) == 1);
+    CHECK(plank_checked_lex_branching(NULL, 0, words(tokens, 1)) == 1);
     CHECK(plank_checked_read(NULL, 0, words(tokens, 1), words(nodes, PLANK_NODE_WIDTH), none, none, NULL) == 0);
     answer = plank_checked_lex(NULL, 0, none);
     CHECK(plank_refusal(answer) == PLANK_REFUSAL_TOKENS_DONT_FIT && plank_place(answer) == 1);
@@ -299,6 +326,7 @@ static void test_misuse(void) {
     struct plank_token_span span;
     CHECK(plank_checked_lex(NULL, 1, none) == plank_misuse(PLANK_MISUSE_NULL, PLANK_SLICE_TEXT));
     CHECK(plank_checked_lex(script, LEN, null) == plank_misuse(PLANK_MISUSE_NULL, PLANK_SLICE_TOKENS));
+    CHECK(plank_checked_lex_branching(script, LEN, null) == plank_misuse(PLANK_MISUSE_NULL, PLANK_SLICE_TOKENS));
     CHECK(plank_checked_read(script, LEN, none, none, none, null, NULL) ==
           plank_misuse(PLANK_MISUSE_NULL, PLANK_SLICE_REPORTS));
     CHECK(plank_checked_read(script, LEN, words(tokens, WORDS), none, words(tokens + 9, 1), none, NULL) ==
@@ -319,6 +347,7 @@ int main(void) {
     test_views();
     test_accents();
     test_refusals();
+    test_lexers();
     test_altered_words();
     test_walks();
     test_family();

@@ -3,6 +3,13 @@
 unsafe extern "C" {
     fn plank_lex(text: *const u8, text_len: usize, tokens: *mut u32, tokens_len: usize) -> u64;
 
+    fn plank_lex_branching(
+        text: *const u8,
+        text_len: usize,
+        tokens: *mut u32,
+        tokens_len: usize,
+    ) -> u64;
+
     fn plank_read(
         text: *const u8,
         text_len: usize,
@@ -35,6 +42,11 @@ unsafe extern "C" {
 pub fn lex(text: &[u8], tokens: &mut [u32]) -> u64 {
     // Safety: both pointers and lengths are those of live slices, the second one unshared.
     unsafe { plank_lex(text.as_ptr(), text.len(), tokens.as_mut_ptr(), tokens.len()) }
+}
+
+pub fn lex_branching(text: &[u8], tokens: &mut [u32]) -> u64 {
+    // Safety: as of `lex`.
+    unsafe { plank_lex_branching(text.as_ptr(), text.len(), tokens.as_mut_ptr(), tokens.len()) }
 }
 
 pub fn read(

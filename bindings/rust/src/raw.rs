@@ -50,7 +50,17 @@ impl Lengths {
 /// Lexes a text: the number of tokens, which stand first in `tokens` with 0 behind them. A refusal
 /// leaves all of them 0.
 pub fn lex(text: &[u8], tokens: &mut [u32]) -> Result<usize, Refusal> {
-    match ffi::lex(text, tokens) {
+    counted(ffi::lex(text, tokens))
+}
+
+/// The same answers by the branching lexer, where [`lex`] lexes from tables: for those who compare
+/// the two.
+pub fn lex_branching(text: &[u8], tokens: &mut [u32]) -> Result<usize, Refusal> {
+    counted(ffi::lex_branching(text, tokens))
+}
+
+fn counted(code: u64) -> Result<usize, Refusal> {
+    match code {
         count if count <= u64::from(u32::MAX) => Ok(count as usize),
         code => Err(Refusal::from_code(code)),
     }

@@ -171,6 +171,7 @@ fn exported() -> BTreeMap<String, String> {
 fn the_library_exports_what_is_declared() {
     let wanted = [
         ("plank_lex", "text:&[u8],tokens:&mut[u32])->u64"),
+        ("plank_lex_branching", "text:&[u8],tokens:&mut[u32])->u64"),
         (
             "plank_read",
             "text:&[u8],tokens:&mut[u32],nodes:&mut[u32],values:&mut[u32],reports:&mut[u32],counts:&mut[u64])->u64",
