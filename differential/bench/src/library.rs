@@ -1,10 +1,15 @@
-//! The library's reading, into slices that a caller keeps.
+//! The library's reading and lexing, into slices that a caller keeps.
 
 use plank::{
-    NODE_WIDTH,
+    NODE_WIDTH, Refusal,
     raw::{self, Counts, Lengths},
 };
 use std::hint::black_box;
+
+/// A quarter more words than are needed.
+fn with_more(words: usize) -> usize {
+    words + words / 4
+}
 
 pub struct Slices {
     tokens: Vec<u32>,
@@ -18,12 +23,11 @@ impl Slices {
     pub fn for_text(text: &[u8]) -> Self {
         let enough = Lengths::enough(text.len());
         let counts = Slices::of(enough).read(text);
-        let more = |words: usize| words + words / 4;
         Slices::of(Lengths {
-            tokens: more(counts.tokens),
-            nodes: more(NODE_WIDTH * counts.nodes),
-            values: more(counts.values),
-            reports: more(3 * counts.reports),
+            tokens: with_more(counts.tokens),
+            nodes: with_more(NODE_WIDTH * counts.nodes),
+            values: with_more(counts.values),
+            reports: with_more(3 * counts.reports),
         })
     }
 
@@ -39,5 +43,27 @@ impl Slices {
     pub fn read(&mut self, text: &[u8]) -> Counts {
         let Slices { tokens, nodes, values, reports } = self;
         raw::read(black_box(text), tokens, nodes, values, reports).expect("the slices suffice")
+    }
+}
+
+/// What lexing is lent.
+pub struct Tokens {
+    words: Vec<u32>,
+}
+
+impl Tokens {
+    /// As many words as the text needs, and a quarter more.
+    pub fn for_text(text: &[u8]) -> Self {
+        let mut enough = Tokens { words: vec![0; Lengths::enough(text.len()).tokens] };
+        let count = enough.lex(text, raw::lex);
+        Tokens { words: vec![0; with_more(count)] }
+    }
+
+    pub fn lex(
+        &mut self,
+        text: &[u8],
+        lexer: impl Fn(&[u8], &mut [u32]) -> Result<usize, Refusal>,
+    ) -> usize {
+        lexer(black_box(text), &mut self.words).expect("the slice suffices")
     }
 }

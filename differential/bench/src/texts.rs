@@ -1,15 +1,17 @@
 //! The texts that are timed: a kind is what a text is made of, over and over.
 
+mod tokens;
+
 use generate::Rng;
 
 pub struct Kind {
-    pub name: &'static str,
+    name: &'static str,
     make: fn(usize) -> String,
 }
 
-pub const SIZES: [usize; 3] = [200, 4_096, 65_536];
+const SIZES: [usize; 3] = [200, 4_096, 65_536];
 
-pub const KINDS: [Kind; 10] = [
+pub const READ_KINDS: [Kind; 10] = [
     Kind { name: "declarations", make: declarations },
     Kind { name: "names, all different", make: different_names },
     Kind { name: "one name", make: one_name },
@@ -22,8 +24,29 @@ pub const KINDS: [Kind; 10] = [
     Kind { name: "a report a line", make: reports },
 ];
 
+pub const LEX_KINDS: [Kind; 8] = [
+    Kind { name: "declarations", make: declarations },
+    Kind { name: "operators", make: tokens::operators },
+    Kind { name: "names", make: tokens::names },
+    Kind { name: "numbers", make: tokens::numbers },
+    Kind { name: "blanks", make: tokens::blanks },
+    Kind { name: "keywords", make: tokens::keywords },
+    Kind { name: "comments", make: comments },
+    Kind { name: "strings", make: tokens::strings },
+];
+
+/// A row for each kind and length: what `row` says of the text.
+pub fn print_rows(kinds: &[Kind], row: fn(&str) -> String) {
+    for kind in kinds {
+        for size in SIZES {
+            let text = kind.text(size);
+            println!("{:<22}{:>7}{}", kind.name, text.len(), row(&text));
+        }
+    }
+}
+
 impl Kind {
-    pub fn text(&self, size: usize) -> String {
+    fn text(&self, size: usize) -> String {
         let text = (self.make)(size);
         assert!(text.len() <= size && size < text.len() + 200, "{}: {}", self.name, text.len());
         text

@@ -1,10 +1,12 @@
 //! Planted faults, to show that the comparison can fail.
 
-use crate::mark;
+use crate::{library::Lexer, mark};
 
+const DECIMAL_LITERAL: u32 = 67;
 const WHITESPACE: u32 = 72;
 const LINE_COMMENT: u32 = 73;
 const BLOCK_COMMENT: u32 = 74;
+const MALFORMED_IDENT_ERROR: u32 = 77;
 const UNCLOSED_BLOCK_COMMENT_ERROR: u32 = 79;
 const END_BITS: u32 = 25;
 
@@ -19,12 +21,35 @@ pub enum Fault {
     Count,
     /// A byte order mark is one token with the blanks behind it.
     Mark,
+    /// A decimal number with a `_` is malformed, as where the table of states has the malformed one
+    /// behind `_`. The fault is in the tables' answer; the reference has none.
+    Underscore,
 }
 
-pub const FAULTS: [(&str, Fault); 3] =
-    [("return", Fault::Return), ("count", Fault::Count), ("mark", Fault::Mark)];
+pub const FAULTS: [(&str, Fault); 4] = [
+    ("return", Fault::Return),
+    ("count", Fault::Count),
+    ("mark", Fault::Mark),
+    ("underscore", Fault::Underscore),
+];
 
 impl Fault {
+    /// Alters the words that a lexer left, where the fault is in this lexer.
+    pub fn alter(self, lexer: Lexer, text: &[u8], words: &mut [u32]) {
+        if (self, lexer) != (Fault::Underscore, Lexer::Tables) {
+            return;
+        }
+        let mut start = 0;
+        for word in words {
+            let end = end(*word);
+            let is_decimal = *word >> END_BITS == DECIMAL_LITERAL;
+            if is_decimal && text.get(start..end).is_some_and(|number| number.contains(&b'_')) {
+                *word = MALFORMED_IDENT_ERROR << END_BITS | end as u32;
+            }
+            start = end;
+        }
+    }
+
     /// The reference's tokens, but for those that the fault ends otherwise: the rest of the text is
     /// lexed from there.
     pub fn lex(self, text: &str) -> Vec<u32> {
@@ -58,7 +83,7 @@ impl Fault {
     fn first(self, text: &str, tokens: &[u32]) -> Option<(usize, u32, usize)> {
         let mut start = 0;
         for (number, word) in tokens.iter().enumerate() {
-            let end = (word & ((1 << END_BITS) - 1)) as usize;
+            let end = end(*word);
             if let Some((kind, length)) = self.cut(word >> END_BITS, &text[start..end]) {
                 return Some((number, kind, start + length));
             }
@@ -82,6 +107,10 @@ impl Fault {
     }
 }
 
+fn end(word: u32) -> usize {
+    (word & ((1 << END_BITS) - 1)) as usize
+}
+
 /// Where so many comments are open that the count is full.
 fn full_count(comment: &[u8]) -> Option<usize> {
     let mut open = 0;
@@ -99,9 +128,21 @@ fn full_count(comment: &[u8]) -> Option<usize> {
 #[cfg(test)]
 mod tests {
     use super::Fault;
+    use crate::library::Lexer;
+
+    fn taken_apart(words: &[u32]) -> Vec<(u32, u32)> {
+        words.iter().map(|word| (word >> 25, word & 0x1ffff)).collect()
+    }
 
     fn tokens(fault: Fault, text: &str) -> Vec<(u32, u32)> {
-        fault.lex(text).iter().map(|word| (word >> 25, word & 0x1ffff)).collect()
+        taken_apart(&fault.lex(text))
+    }
+
+    /// The reference's tokens, altered as a lexer's would be, with a word of 0 behind them.
+    fn altered(fault: Fault, lexer: Lexer, text: &str) -> Vec<u32> {
+        let mut words = [oracle::lex(text), vec![0]].concat();
+        fault.alter(lexer, text.as_bytes(), &mut words);
+        words
     }
 
     #[test]
@@ -124,9 +165,24 @@ mod tests {
     }
 
     #[test]
+    fn an_underscore_makes_a_decimal_malformed_in_the_tables() {
+        let found = altered(Fault::Underscore, Lexer::Tables, "a_1 1_0;12");
+        let wanted = [(65, 3), (72, 4), (77, 7), (0, 8), (67, 10), (81, 10), (0, 0)];
+        assert_eq!(taken_apart(&found), wanted);
+        let as_before = |fault, lexer, text: &str| {
+            assert_eq!(altered(fault, lexer, text), [oracle::lex(text), vec![0]].concat());
+        };
+        for text in ["0x1_0", "0b1_0", "a_1", "12", "1_a", "\"1_0\"", "/*1_0*/"] {
+            as_before(Fault::Underscore, Lexer::Tables, text);
+        }
+        as_before(Fault::Underscore, Lexer::Branching, "1_0");
+        as_before(Fault::Return, Lexer::Tables, "1_0 //a\rb");
+    }
+
+    #[test]
     fn other_texts_are_as_before() {
-        for text in ["", "a\r", "//a\n", "//a\r", "/* \r */", "/*/**/*/;/*", " ;"] {
-            for fault in [Fault::Return, Fault::Count, Fault::Mark] {
+        for text in ["", "a\r", "//a\n", "//a\r", "/* \r */", "/*/**/*/;/*", " ;", "1_0"] {
+            for fault in [Fault::Return, Fault::Count, Fault::Mark, Fault::Underscore] {
                 assert_eq!(fault.lex(text), oracle::lex(text), "{text:?}");
             }
         }

@@ -6,9 +6,17 @@ use crate::{
     read::{COUNTS, Lent as Lengths},
 };
 use oracle::NODE_WIDTH;
+use std::fmt;
 
 unsafe extern "C" {
     fn plank_lex(text: *const u8, text_len: usize, tokens: *mut u32, tokens_len: usize) -> u64;
+
+    fn plank_lex_branching(
+        text: *const u8,
+        text_len: usize,
+        tokens: *mut u32,
+        tokens_len: usize,
+    ) -> u64;
 
     fn plank_read(
         text: *const u8,
@@ -79,17 +87,43 @@ impl<W: Copy + PartialEq> Lent<W> {
     }
 }
 
-pub fn lex(text: &[u8], lent: usize) -> Answer {
-    let memory = [text, BEHIND_TEXT].concat();
-    let mut tokens = Lent::new(lent, FILL);
-    let slice = tokens.slice();
-    // Safety: both pointers and lengths are those of live slices, the second one unshared.
-    let packed = unsafe { plank_lex(memory.as_ptr(), text.len(), slice.as_mut_ptr(), slice.len()) };
-    Answer {
-        number: (packed >> 32) as u32,
-        value: packed as u32,
-        stayed_inside: tokens.is_kept(),
-        words: tokens.back(),
+/// The library has two lexers, which must answer alike.
+#[derive(Debug, Clone, Copy, PartialEq, Eq)]
+pub enum Lexer {
+    /// `plank_lex`, from a table of byte classes and one of states.
+    Tables,
+    /// `plank_lex_branching`.
+    Branching,
+}
+
+impl Lexer {
+    pub const BOTH: [Lexer; 2] = [Lexer::Tables, Lexer::Branching];
+
+    pub fn lex(self, text: &[u8], lent: usize) -> Answer {
+        let call = match self {
+            Lexer::Tables => plank_lex,
+            Lexer::Branching => plank_lex_branching,
+        };
+        let memory = [text, BEHIND_TEXT].concat();
+        let mut tokens = Lent::new(lent, FILL);
+        let slice = tokens.slice();
+        // Safety: both pointers and lengths are those of live slices, the second one unshared.
+        let packed = unsafe { call(memory.as_ptr(), text.len(), slice.as_mut_ptr(), slice.len()) };
+        Answer {
+            number: (packed >> 32) as u32,
+            value: packed as u32,
+            stayed_inside: tokens.is_kept(),
+            words: tokens.back(),
+        }
+    }
+}
+
+impl fmt::Display for Lexer {
+    fn fmt(&self, f: &mut fmt::Formatter<'_>) -> fmt::Result {
+        f.write_str(match self {
+            Lexer::Tables => "tables",
+            Lexer::Branching => "branching",
+        })
     }
 }
 

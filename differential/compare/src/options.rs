@@ -35,7 +35,7 @@ pub struct FaultOptions<F> {
     /// How many texts are generated, besides the fixed ones.
     pub texts: usize,
     pub seed: u64,
-    /// Run against a reference with this fault.
+    /// The fault that is planted.
     pub plant: Option<F>,
 }
 

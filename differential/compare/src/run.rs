@@ -1,6 +1,6 @@
 //! The run over all texts, and what a run counts.
 
-use crate::{check::first_difference, options::LexOptions, shrink::shrink};
+use crate::{check::Differences, library::Lexer, options::LexOptions, shrink::shrink};
 use generate::{Texts, behind_mark, short_byte_texts, short_texts, texts_around_the_limit};
 use std::{fmt::Display, panic, process::ExitCode, thread};
 
@@ -8,20 +8,30 @@ use std::{fmt::Display, panic, process::ExitCode, thread};
 const SHOWN: usize = 5;
 
 pub fn lex(options: &LexOptions) -> ExitCode {
-    let difference = |text: &[u8]| first_difference(text, options.plant);
-    let differs = |text: &[u8]| difference(text).is_some();
+    let differences = |text: &[u8]| Differences::of(text, options.plant);
+    let mut by_lexer = Lexer::BOTH.map(|lexer| (lexer, 0));
+    let mut differs = |text: &[u8]| {
+        let found = differences(text);
+        for (lexer, texts) in &mut by_lexer {
+            *texts += usize::from(found.as_ref().is_some_and(|found| found.is_of(*lexer)));
+        }
+        found.is_some()
+    };
     let mut run = Run::new(500_000);
     if let Some(fault) = options.plant {
         println!("planted fault: {fault:?}");
     }
-    run.all("generated", Texts::new(options.seed).take(options.texts), differs);
-    run.all("around the limit", texts_around_the_limit(), differs);
+    run.all("generated", Texts::new(options.seed).take(options.texts), &mut differs);
+    run.all("around the limit", texts_around_the_limit(), &mut differs);
     let marked = Texts::new(options.seed).take(options.texts / 2).map(behind_mark);
-    run.all("with a mark in front", marked, differs);
-    run.all("short", short_texts(), differs);
-    run.all("short, of any bytes", short_byte_texts(), differs);
-    run.show_first(difference);
-    run.end()
+    run.all("with a mark in front", marked, &mut differs);
+    run.all("short", short_texts(), &mut differs);
+    run.all("short, of any bytes", short_byte_texts(), &mut differs);
+    run.show_first(differences);
+    for (lexer, texts) in by_lexer {
+        println!("{lexer}: {texts} texts differ");
+    }
+    run.end("texts, each by both lexers")
 }
 
 /// Room for the deepest readings of both sides.
@@ -96,9 +106,9 @@ impl Run {
         }
     }
 
-    /// Prints the last line.
-    pub fn end(&self) -> ExitCode {
-        println!("{} texts, {} differences", self.texts, self.differences);
+    /// Prints the last line: a text that differs counts once.
+    pub fn end(&self, texts: &str) -> ExitCode {
+        println!("{} {texts}, {} differences", self.texts, self.differences);
         if self.differences > 0 { ExitCode::FAILURE } else { ExitCode::SUCCESS }
     }
 }

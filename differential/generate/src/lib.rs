@@ -22,7 +22,7 @@ pub use rows::short_rows;
 pub use script::{damaged_script, script};
 pub use short::{short_byte_texts, short_strings, short_texts};
 pub use sized::{behind_mark, long_texts, texts_around_the_limit};
-pub use soup::TOKENS;
+pub use soup::{KEYWORDS, OPERATORS, TOKENS};
 
 /// An endless row of texts of all sorts, most of them below two thousand bytes.
 pub struct Texts {

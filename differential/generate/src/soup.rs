@@ -18,6 +18,10 @@ pub const TOKENS: &[&str] = &[
     "é",
 ];
 
+/// The spellings of kinds 0 to 40, delimiters and operators, and of kinds 41 to 64, with which `TOKENS` begins.
+pub const OPERATORS: &[&str] = TOKENS.split_at(41).0;
+pub const KEYWORDS: &[&str] = TOKENS.split_at(41).1.split_at(24).0;
+
 pub fn tokens(rng: &mut Rng) -> String {
     let blanks = rng.chance(1, 2);
     let mut text = String::new();

@@ -1,6 +1,6 @@
 use generate::{
-    ParseTexts, Rng, TOKENS, Texts, long_texts, nests, script, short_byte_texts, short_rows,
-    short_strings, short_texts, texts_around_the_limit,
+    KEYWORDS, OPERATORS, ParseTexts, Rng, TOKENS, Texts, long_texts, nests, script,
+    short_byte_texts, short_rows, short_strings, short_texts, texts_around_the_limit,
 };
 use oracle::{End, NODE_WIDTH};
 use std::collections::HashSet;
@@ -34,6 +34,19 @@ fn a_seed_gives_the_same_texts() {
 fn tokens_cover_every_kind() {
     let kinds: HashSet<u32> = TOKENS.iter().flat_map(|token| token_kinds(token)).collect();
     assert_eq!(kinds, (0..=EOF).collect());
+}
+
+#[test]
+fn operators_and_keywords_are_those_of_the_kinds() {
+    let kinds = |spellings: &[&str]| -> Vec<u32> {
+        spellings
+            .iter()
+            .flat_map(|spelling| token_kinds(spelling))
+            .filter(|kind| *kind != EOF)
+            .collect()
+    };
+    assert_eq!(kinds(OPERATORS), (0..=40).collect::<Vec<_>>());
+    assert_eq!(kinds(KEYWORDS), (41..=64).collect::<Vec<_>>());
 }
 
 #[test]

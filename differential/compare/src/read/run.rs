@@ -44,7 +44,7 @@ fn run_all(options: &ReadOptions) -> ExitCode {
     all("generated, of any bytes", &mut Texts::new(options.seed).take(options.texts / 2));
     print!("{tally}");
     run.show_first(|text| difference_in(text, fault, &mut Tally::default()));
-    run.end()
+    run.end("texts")
 }
 
 /// What differs in the reading of one text.
