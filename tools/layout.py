@@ -94,7 +94,7 @@ def page(text):
     return f"""# The tables of the lexer
 
 Written by `tools/layout.py` from the arrays of [crates/tables](../crates/tables/src/lib.rt); `tools/check.sh` fails where the two differ.
-That the arrays are what the rules say is proved: [the rules](../crates/tables/specs/Rule.antt), [the tests](../crates/tables/specs/Tables.antt).
+That the arrays are what the rules say is proved: [the rules](../crates/rules/specs/Rule.antt), [the tests](../crates/rules/specs/Tables.antt).
 
 ## Classes of bytes (CLASSES)
 

@@ -12,10 +12,10 @@ ghost use Rattle.scan.specs.Lexer.{longestText, from, lexeme, run, tokenAt, inv
 ghost use Rattle.scan.specs.Longest.{keywordOf};
 ghost use Rattle.lexer.specs.Walk.{rest};
 ghost use Rattle.lexer.specs.Lex.{answer, lexed, lexedWords};
-ghost use Rattle.tables.specs.Rule.{classOf, member, goesOn, numeric, operator, stop, start, block, after, kindOf};
-ghost use Rattle.tables.specs.Walk.{walk, afterFirst, tokenOf};
-ghost use Rattle.tables.specs.Tables.{classList, nextList, kindList};
-ghost use Rattle.tables.specs.Keys.{keyList, spellingList, right};
+ghost use Rattle.rules.specs.Rule.{classOf, member, goesOn, numeric, operator, stop, start, block, after, kindOf};
+ghost use Rattle.rules.specs.Walk.{walk, afterFirst, tokenOf};
+ghost use Rattle.rules.specs.Tables.{classList, nextList, kindList};
+ghost use Rattle.rules.specs.Keys.{keyList, spellingList, right};
 use lexer::Lexed;
 use scan::Token;
 use utf8::Character;

@@ -1,7 +1,7 @@
 -- `class` meets its contract, by the test over the table.
 use mathlib.Core.Path.{_∙_, ap}
 use Prim.Native.Nat.{_<_}
-use Rattle.tables.specs.Tables.{class-at}
+use Rattle.rules.specs.Tables.{class-at}
 use lib.ListN.{getD}
 use borrow.Author.Needs.{needs}
 use Rattle.tables.proofs.class.Statement.{statement}

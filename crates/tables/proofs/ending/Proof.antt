@@ -1,6 +1,6 @@
 -- `ending` meets its contract.
 use native.Mathlib.Omega.{arith}
-use Rattle.tables.specs.Steps.{on-low, on-high, on-ends, stop-ends, end-ends, start-two}
+use Rattle.rules.specs.Steps.{on-low, on-high, on-ends, stop-ends, end-ends, start-two}
 use borrow.Author.Needs.{needs}
 use Rattle.tables.proofs.ending.Statement.{statement}
 use Rattle.tables.proofs.ending.Tie as tie

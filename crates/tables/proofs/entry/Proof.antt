@@ -1,7 +1,7 @@
 -- `entry` meets its contract, by the test over the table.
 use mathlib.Core.Path.{_∙_, ap}
 use Prim.Native.Nat.{_+_, _-_, _*_}
-use Rattle.tables.specs.Tables.{next-at}
+use Rattle.rules.specs.Tables.{next-at}
 use lib.ListN.{getD}
 use borrow.Author.Needs.{needs}
 use Rattle.tables.proofs.entry.Statement.{statement}

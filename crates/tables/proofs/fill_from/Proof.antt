@@ -3,8 +3,8 @@ use mathlib.Core.Path.{refl, _∙_}
 use Prim.Native.Nat.{_-_}
 use lib.ListN.{length}
 use Rattle.lexer.specs.Walk.{Filling, filling-first, filling-next, filling-last, stepped}
-use Rattle.tables.specs.Tables.{classList, nextList, kindList}
-use Rattle.tables.specs.Keys.{keyList, spellingList}
+use Rattle.rules.specs.Tables.{classList, nextList, kindList}
+use Rattle.rules.specs.Keys.{keyList, spellingList}
 use borrow.Author.Needs.{needs}
 use native.Mathlib.Omega.{arith}
 use Rattle.tables.proofs.fill_from.Statement.{statement}

@@ -3,7 +3,7 @@ use mathlib.Core.Path.{refl, sym, _∙_}
 use native.Mathlib.Omega.{arith}
 use lib.ListN.{length-drop}
 use Rattle.utf8.specs.Laws.{character-fits}
-use Rattle.tables.specs.Steps.{invalid-is}
+use Rattle.rules.specs.Steps.{invalid-is}
 use borrow.Author.Needs.{needs}
 use Rattle.tables.proofs.invalid.Statement.{statement}
 use Rattle.tables.proofs.invalid.Tie as tie

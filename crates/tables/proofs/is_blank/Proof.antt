@@ -2,7 +2,7 @@
 use Prim.Native.Nat.{_<_}
 use mathlib.Core.Path.{_∙_, ap}
 use lib.Dec.{eqb}
-use Rattle.tables.specs.Alike.{blank-class}
+use Rattle.rules.specs.Alike.{blank-class}
 use borrow.Author.Needs.{needs}
 use Rattle.tables.proofs.is_blank.Statement.{statement}
 use Rattle.tables.proofs.is_blank.Tie as tie

@@ -2,7 +2,7 @@
 use Prim.Native.Nat.{_<_}
 use mathlib.Core.Path.{_∙_, ap}
 use lib.Dec.{ltb}
-use Rattle.tables.specs.Alike.{part-class}
+use Rattle.rules.specs.Alike.{part-class}
 use borrow.Author.Needs.{needs}
 use Rattle.tables.proofs.is_part.Statement.{statement}
 use Rattle.tables.proofs.is_part.Tie as tie

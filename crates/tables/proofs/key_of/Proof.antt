@@ -3,7 +3,7 @@ use mathlib.Core.Path.{_∙_, ap}
 use Prim.Native.Nat.{_+_, _-_, _*_, _<_}
 use native.Mathlib.Omega.{arith}
 use lib.ListN.{getD}
-use Rattle.tables.specs.Keys.{right, key-at, key-self, key-none}
+use Rattle.rules.specs.Keys.{right, key-at, key-self, key-none}
 use borrow.Author.Needs.{needs}
 use Rattle.tables.proofs.key_of.Statement.{statement}
 use Rattle.tables.proofs.key_of.Tie as tie

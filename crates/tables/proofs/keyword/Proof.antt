@@ -2,7 +2,7 @@
 use mathlib.Core.Path.{refl, sym, _∙_, ap}
 use native.Mathlib.Omega.{arith}
 use Rattle.scan.specs.Longest.{same}
-use Rattle.tables.specs.Keys.{other-length, no-word, own-word, other-word, key-from, key-to, spelt-part}
+use Rattle.rules.specs.Keys.{other-length, no-word, own-word, other-word, key-from, key-to, spelt-part}
 use borrow.Author.Needs.{needs}
 use Rattle.tables.proofs.keyword.Statement.{statement}
 use Rattle.tables.proofs.keyword.Tie as tie

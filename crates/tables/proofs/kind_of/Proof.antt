@@ -1,7 +1,7 @@
 -- `kind_of` meets its contract, by the test over the table.
 use mathlib.Core.Path.{_∙_, ap}
 use Prim.Native.Nat.{_-_}
-use Rattle.tables.specs.Tables.{kind-at}
+use Rattle.rules.specs.Tables.{kind-at}
 use lib.ListN.{getD}
 use borrow.Author.Needs.{needs}
 use Rattle.tables.proofs.kind_of.Statement.{statement}

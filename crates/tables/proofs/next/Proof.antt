@@ -1,8 +1,8 @@
 -- `next` meets its contract: bytes of one class are alike.
 use mathlib.Core.Path.{_∙_, ap}
 use Prim.Native.Nat.{_<_}
-use Rattle.tables.specs.Rule.{member, after}
-use Rattle.tables.specs.Alike.{alike, class-from, class-to, after-from, after-to}
+use Rattle.rules.specs.Rule.{member, after}
+use Rattle.rules.specs.Alike.{alike, class-from, class-to, after-from, after-to}
 use borrow.Author.Needs.{needs}
 use Rattle.tables.proofs.next.Statement.{statement}
 use Rattle.tables.proofs.next.Tie as tie

@@ -4,10 +4,10 @@ use mathlib.Core.Bool.{true}
 use Prim.Native.Nat.{_-_}
 use lib.ListN.{length, drop}
 use Rattle.scan.specs.Lexer.{from}
-use Rattle.tables.specs.Rule.{numeric}
-use Rattle.tables.specs.Walk.{walk}
-use Rattle.tables.specs.Alike.{numeral-on}
-use Rattle.tables.specs.Steps.{walk-over, numeral-next, numeral-stop, numeral-line}
+use Rattle.rules.specs.Rule.{numeric}
+use Rattle.rules.specs.Walk.{walk}
+use Rattle.rules.specs.Alike.{numeral-on}
+use Rattle.rules.specs.Steps.{walk-over, numeral-next, numeral-stop, numeral-line}
 use borrow.Author.Needs.{needs}
 use Rattle.tables.proofs.numeral.Statement.{statement}
 use Rattle.tables.proofs.numeral.Tie as tie

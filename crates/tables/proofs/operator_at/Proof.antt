@@ -1,7 +1,7 @@
 -- `operator_at` meets its contract: by the state after its next byte.
 use mathlib.Core.Path.{sym, _∙_}
 use native.Mathlib.Omega.{arith}
-use Rattle.tables.specs.Steps.{operator-line, alone-here, pair-here, pair-later}
+use Rattle.rules.specs.Steps.{operator-line, alone-here, pair-here, pair-later}
 use borrow.Author.Needs.{needs}
 use Rattle.tables.proofs.operator_at.Statement.{statement}
 use Rattle.tables.proofs.operator_at.Tie as tie

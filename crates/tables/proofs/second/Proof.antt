@@ -1,6 +1,6 @@
 -- `second` meets its contract: blanks and the bytes of names end every operator.
 use mathlib.Core.Path.{refl}
-use Rattle.tables.specs.Steps.{second-over, second-alone, second-next, operator-line}
+use Rattle.rules.specs.Steps.{second-over, second-alone, second-next, operator-line}
 use borrow.Author.Needs.{needs}
 use Rattle.tables.proofs.second.Statement.{statement}
 use Rattle.tables.proofs.second.Tie as tie

@@ -1,5 +1,5 @@
 -- `special` meets its contract.
-use Rattle.tables.specs.Steps.{quote-told, hex-told, line-told, block-told, start-told, name-told}
+use Rattle.rules.specs.Steps.{quote-told, hex-told, line-told, block-told, start-told, name-told}
 use borrow.Author.Needs.{needs}
 use Rattle.tables.proofs.special.Statement.{statement}
 use Rattle.tables.proofs.special.Tie as tie

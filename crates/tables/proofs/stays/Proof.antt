@@ -3,8 +3,8 @@ use mathlib.Core.Path.{_≡_}
 use Prim.Native.Nat.{_-_, _≤_}
 use lib.ListN.{length, drop}
 use Rattle.scan.specs.Lexer.{from}
-use Rattle.tables.specs.Walk.{walk}
-use Rattle.tables.specs.Steps.{walk-stay}
+use Rattle.rules.specs.Walk.{walk}
+use Rattle.rules.specs.Steps.{walk-stay}
 use borrow.Author.Needs.{needs}
 use Rattle.tables.proofs.stays.Statement.{statement}
 use Rattle.tables.proofs.stays.Tie as tie

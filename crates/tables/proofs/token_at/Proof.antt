@@ -2,7 +2,7 @@
 use mathlib.Core.Path.{sym, _∙_}
 use native.Mathlib.Omega.{arith}
 use Rattle.tokens.specs.At.{word-fits}
-use Rattle.tables.specs.Steps.{name-here, blank-here, numeral-here, numeral-line, line-goes, ends-from, ends-to, ends-own, ends-later}
+use Rattle.rules.specs.Steps.{name-here, blank-here, numeral-here, numeral-line, line-goes, ends-from, ends-to, ends-own, ends-later}
 use borrow.Author.Needs.{needs}
 use Rattle.tables.proofs.token_at.Statement.{statement}
 use Rattle.tables.proofs.token_at.Tie as tie

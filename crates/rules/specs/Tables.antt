@@ -12,7 +12,7 @@ use lib.ListN.{length, getD}
 use Rattle.scan.specs.Bytes.{ascii, digit, upper, lower, identStart, identPart, blank, isDigit}
 use Rattle.scan.specs.Lexer.{punctuation}
 use Rattle.scan.specs.Longest.{same, and-both}
-use Rattle.tables.specs.Rule.{columns, members, classOf, member, rows, after, marks, kindOf}
+use Rattle.rules.specs.Rule.{columns, members, classOf, member, rows, after, marks, kindOf}
 
 -- each entry is what `f` gives for its place, counted from i
 abbrev pub every : (ℕ → ℕ) → ℕ → List ℕ → Bool

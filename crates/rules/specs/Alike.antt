@@ -9,7 +9,7 @@ use lib.Dec.{eqb, ltb, leb}
 use Rattle.scan.specs.Bytes.{within, digit, upper, lower, identStart, identPart, blank, isDigit}
 use Rattle.scan.specs.Lexer.{punctuation}
 use Rattle.scan.specs.Longest.{same, and-both}
-use Rattle.tables.specs.Rule.{columns, members, classOf, member, goesOn, stop, numeric, operator, marks, rows, rowAt, after}
+use Rattle.rules.specs.Rule.{columns, members, classOf, member, goesOn, stop, numeric, operator, marks, rows, rowAt, after}
 
 -- the test passes at all numbers below n
 abbrev pub below : (ℕ → Bool) → ℕ → Bool

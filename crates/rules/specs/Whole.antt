@@ -12,8 +12,8 @@ use Rattle.scan.specs.Bytes.{ascii, Class, digit, upper, lower, identStart, ide
 use Rattle.scan.specs.Lexer.{Fixed, Lexeme, lexeme, more, run, spelled, classed, tokenAt, string, invalidChar, longest, noMatch, finish, rules, punctuation, keywords, others, matched, Match}
 use Rattle.scan.specs.Longest.{same, and-both, differs, apart, pass, spelled-split}
 use Rattle.tokens.specs.First.{hex-token, word-token, number-token, blank-token, quote-token, at-builtin, at-error, other-token}
-use Rattle.tables.specs.Rule.{stop, start, name, nameH, blanks, atSign, builtin, decimal, markOf, rows, after, marks, kindOf}
-use Rattle.tables.specs.Walk.{walk, step, tokenOf, Names, ends-token, ends-more, name-names, h-names, named-token, zero-ends, decimal-walk, blanks-walk, builtin-walk}
+use Rattle.rules.specs.Rule.{stop, start, name, nameH, blanks, atSign, builtin, decimal, markOf, rows, after, marks, kindOf}
+use Rattle.rules.specs.Walk.{walk, step, tokenOf, Names, ends-token, ends-more, name-names, h-names, named-token, zero-ends, decimal-walk, blanks-walk, builtin-walk}
 
 abbrev Right : ℕ → Type 0
 Right b = (s : List ℕ) → tokenOf (b ∷ s) (walk start (b ∷ s)) ≡ tokenAt (b ∷ s)

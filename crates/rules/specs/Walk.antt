@@ -12,7 +12,7 @@ use Rattle.scan.specs.Bytes.{Class, digit, upper, lower, identStart, identPart,
 use Rattle.scan.specs.Lexer.{Lexeme, lexeme, more, run, spelled, classed, tokenAt, lineComment, blockComment, number, string, invalidChar, punctuation}
 use Rattle.scan.specs.Longest.{keywordOf}
 use Rattle.tokens.specs.First.{hexPrefix, binPrefix, number-token}
-use Rattle.tables.specs.Rule.{goesOn, stop, start, name, nameH, nameHe, nameHex, blanks, builtin, zeroAlone, decimal, zeroX, zeroB, hexadecimal, binary, malformed, quote, hexQuote, line, block, marks, digits, rows, after, kindOf}
+use Rattle.rules.specs.Rule.{goesOn, stop, start, name, nameH, nameHe, nameHex, blanks, builtin, zeroAlone, decimal, zeroX, zeroB, hexadecimal, binary, malformed, quote, hexQuote, line, block, marks, digits, rows, after, kindOf}
 
 -- The state in which the walk ends, and how many bytes it took.
 abbrev pub step : ℕ → ℕ → Lexeme → Lexeme

@@ -140,7 +140,7 @@ paired a b = markOf punctuation marks (a ∷ b ∷ [])
 -- The state after the byte, by the state before it, `a` to `z`.
 unfoldable pub rows : List (ℕ → ℕ)
 rows =
-    -- a: nothing yet
+    -- a: nothing yet; `h`, `0`, `@` and `"` have states of their own
     one 104 nameH (one 48 zeroAlone (one 64 atSign (one 34 quote
     (λ b. cond (identStart b) name (cond (digit b) decimal (cond (blank b) blanks
     (markOf punctuation marks (b ∷ []))))))))
@@ -148,17 +148,17 @@ rows =
     ∷ (λ b. cond (blank b) blanks stop)
     -- c: a name
     ∷ part name
-    -- d: `h`
+    -- d: `h`, with `e` `he`
     ∷ one 101 nameHe (part name)
-    -- e: `he`
+    -- e: `he`, with `x` `hex`
     ∷ one 120 nameHex (part name)
-    -- f: `hex`
+    -- f: `hex`, with `"` the beginning of a string
     ∷ one 34 hexQuote (part name)
     -- g: `@`
     ∷ (λ b. cond (identStart b) builtin stop)
     -- h: a builtin's name
     ∷ part builtin
-    -- i: `0`
+    -- i: `0`, with `x` or `b` a prefix
     ∷ one 120 zeroX (one 98 zeroB (digits decimal (isDigit 10)))
     -- j: a decimal number
     ∷ digits decimal (isDigit 10)

@@ -18,10 +18,10 @@ use Rattle.scan.specs.Comments.{behind, behind-all}
 use Rattle.scan.specs.Lexer.{Fixed, longestText, Lexeme, lexeme, more, from, run, tokenAt, lineComment, blockComment, string, invalidChar, punctuation}
 use Rattle.scan.specs.Longest.{same, keywordOf, and-both}
 use Rattle.scan.specs.Laws.{within-low, ended, rest-cons, from-more, from-zero}
-use Rattle.tables.specs.Rule.{classOf, goesOn, stop, start, name, blanks, quote, hexQuote, line, block, markOf, rows, after, kindOf, marks, numeric, operator}
-use Rattle.tables.specs.Alike.{below, below-at, between, numeral-on, numeral-over, operator-over, operator-ends}
-use Rattle.tables.specs.Walk.{step, walk, afterFirst, special, tokenOf, name-walk, blanks-walk, named-token}
-use Rattle.tables.specs.Whole.{walked}
+use Rattle.rules.specs.Rule.{classOf, goesOn, stop, start, name, blanks, quote, hexQuote, line, block, markOf, rows, after, kindOf, marks, numeric, operator}
+use Rattle.rules.specs.Alike.{below, below-at, between, numeral-on, numeral-over, operator-over, operator-ends}
+use Rattle.rules.specs.Walk.{step, walk, afterFirst, special, tokenOf, name-walk, blanks-walk, named-token}
+use Rattle.rules.specs.Whole.{walked}
 
 -- ------------------------------------------------------------------ the walk
 

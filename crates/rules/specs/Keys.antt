@@ -12,7 +12,7 @@ use Rattle.words.specs.Token as TokenKind
 use Rattle.scan.specs.Bytes.{ascii, within}
 use Rattle.scan.specs.Lexer.{Fixed, keywords}
 use Rattle.scan.specs.Longest.{same, same-length, same-head, same-equal, kindIn, keywordOf, and-both}
-use Rattle.tables.specs.Alike.{below, below-at, between}
+use Rattle.rules.specs.Alike.{below, below-at, between}
 
 -- The keywords, in the order of their kinds, a line for each.
 unfoldable pub spellingList : List ℕ
