@@ -98,8 +98,7 @@ module _ (text : List ℕ) (i q : ℕ) (t : Token) (b : ℕ) (e : b ≡ getD tex
   pub numeral-stop : identPart b ≡ false → from i (walk q (drop i text)) ≡ t → ended q i ≡ t
   numeral-stop p w = walk-stop text i q t stop false h (sym (sym (ap (after q) e) ∙ numeral-over q b l n p)) refl refl refl w
 
--- an operator and the byte after it
--- what `second` promises of its answer
+-- an operator and the byte after it: what `second` promises of its answer
 abbrev pub Second : List ℕ → ℕ → ℕ → ℕ → Type 0
 Second text at q r =
     (r ≡ afterFirst q (drop at text)) × (32 ≤ r) × (r < 128) × (goesOn r ≡ false) × ((r ≡ stop → ⊥) → at < length text)
