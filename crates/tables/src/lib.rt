@@ -1,5 +1,5 @@
 // Lexing from tables: the token at an offset, as the branching lexer of crate tokens answers, and `lex` over it, as crate lexer has it.
-// `fill` makes the tables once and lends them: a constant array is made anew, entry by entry, wherever it stands.
+// `fill_from` makes the tables once and lends them: a constant array is made anew wherever it stands.
 ghost use mathlib.Core.Path.{_≡_};
 ghost use mathlib.Core.List.{map};
 ghost use mathlib.Core.Bool.{true, false};
@@ -552,8 +552,8 @@ fn ending(text: &[u8], classes: &[u8; 256], states: &[u8; 988], at: usize, first
     }
 }
 
-// The token that begins with an operator's byte: a fixed spelling of one or two bytes, or a comment. What `special` gives is taken apart here
-// and below: were it handed on, all tokens would lie in memory, and reading the next one would wait for that.
+// The token that begins with an operator's byte: a fixed spelling of one or two bytes, or a comment. That what `special` gives is taken
+// apart here and below was tried for speed; docs/DECISIONS.md has what it came to.
 fn operator_at(
     text: &[u8],
     classes: &[u8; 256],
