@@ -27,8 +27,8 @@ pub enum Element {
 }
 
 pub struct Listed {
-    pub it: Element,
     pub at: Reading,
+    pub it: Element,
 }
 
 // A binary operator: its token, its left and its right priority, and its number in `BinaryOp`.
@@ -45,8 +45,8 @@ pub enum Infix {
 }
 
 pub struct Operator {
-    pub it: Infix,
     pub at: Reading,
+    pub it: Infix,
 }
 
 // `Option<StmtResult>`
@@ -58,8 +58,8 @@ pub enum StmtResult {
 }
 
 pub struct Stmt {
-    pub it: StmtResult,
     pub at: Reading,
+    pub it: StmtResult,
 }
 
 // What a flag adds to a payload.
@@ -188,44 +188,44 @@ const NO_SEMI: [u32; 5] = [
 
 // The statements with an expression that no semicolon follows: it closes the block, or is a statement whose semicolon is missing.
 pub struct Ended {
+    pub at: Reading,
     pub list: Unfinished,
     pub closing: Maybe,
     pub last: bool,
-    pub at: Reading,
 }
 
 // A node, and whether what is read goes on.
 pub struct Longer {
+    pub at: Reading,
     pub it: Unfinished,
     pub on: bool,
-    pub at: Reading,
 }
 
 // A node and a list in it, both open.
 pub struct Two {
+    pub at: Reading,
     pub outer: Unfinished,
     pub inner: Unfinished,
-    pub at: Reading,
 }
 
 // A place in a list, or its length.
 pub struct Placed {
-    pub it: usize,
     pub at: Reading,
+    pub it: usize,
 }
 
 // Where an expression starts, and its prefix operator's node.
 pub struct Prefixed {
+    pub at: Reading,
     pub start: u32,
     pub it: Element,
-    pub at: Reading,
 }
 
 // A binary expression up to its right operand, and that one's priority.
 pub struct Infixed {
+    pub at: Reading,
     pub it: Element,
     pub right: u32,
-    pub at: Reading,
 }
 
 // What goes on from an expression and is no binary operator.
@@ -237,8 +237,8 @@ pub enum Goes {
 }
 
 pub struct Postfix {
-    pub it: Goes,
     pub at: Reading,
+    pub it: Goes,
 }
 
 // After `(`: an empty tuple, or what stands in the brackets begins.
@@ -248,8 +248,8 @@ pub enum Brackets {
 }
 
 pub struct ParenStart {
-    pub it: Brackets,
     pub at: Reading,
+    pub it: Brackets,
 }
 
 // A parameter up to its type: none begins; its type is `$` and a name; its type is an expression.
@@ -260,8 +260,8 @@ pub enum Param {
 }
 
 pub struct ParamHead {
-    pub it: Param,
     pub at: Reading,
+    pub it: Param,
 }
 
 // What an `else` begins, and where: none is there; an `if` follows; a block follows.
@@ -272,16 +272,16 @@ pub enum Else {
 }
 
 pub struct ElseKind {
-    pub it: Else,
     pub at: Reading,
+    pub it: Else,
 }
 
 // A `let` up to the colon of its type.
 pub struct LetHead {
+    pub at: Reading,
     pub it: Unfinished,
     pub mutable: bool,
     pub typed: bool,
-    pub at: Reading,
 }
 
 // What an expression is at the start of a statement: the left side of an assignment, or whole.
@@ -291,6 +291,6 @@ pub enum After {
 }
 
 pub struct AfterExpr {
-    pub it: After,
     pub at: Reading,
+    pub it: After,
 }

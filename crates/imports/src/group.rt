@@ -25,21 +25,21 @@ enum Item {
 }
 
 struct Grown {
-    pub it: Item,
     pub at: Reading,
+    pub it: Item,
 }
 
 // A group, and how many items it has.
 struct Items {
+    pub at: Reading,
     pub node: Unfinished,
     pub count: usize,
-    pub at: Reading,
 }
 
 // Whether a loop goes on.
 struct Going {
-    pub on: bool,
     pub at: Reading,
+    pub on: bool,
 }
 
 // One turn of the loop below: whether it goes on.

@@ -17,17 +17,17 @@ mod group;
 
 // The path so far, and the whole declaration's node where it ends in the path: in a star or a group.
 struct Import {
+    pub at: Reading,
     pub path: Unfinished,
     pub whole: Maybe,
-    pub at: Reading,
 }
 
 // The same after a turn, and whether there is another.
 struct ImportTurn {
+    pub at: Reading,
     pub on: bool,
     pub path: Unfinished,
     pub whole: Maybe,
-    pub at: Reading,
 }
 
 fn glob_import(

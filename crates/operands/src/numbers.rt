@@ -20,8 +20,8 @@ enum Offset {
 
 // That, and where reading then stands.
 struct Valued {
-    pub it: Offset,
     pub at: Reading,
+    pub it: Offset,
 }
 
 // The number token at the cursor, passed: its value is made from the digits past the `prefix`.

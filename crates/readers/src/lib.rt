@@ -47,23 +47,23 @@ use words::token;
 
 // The members of a struct, and whether a method was among them.
 struct MemberList {
+    pub at: Reading,
     pub body: Unfinished,
     pub seen: bool,
-    pub at: Reading,
 }
 
 // The else-if branches, and the else block.
 struct ElseIfs {
+    pub at: Reading,
     pub list: Unfinished,
     pub last: Maybe,
-    pub at: Reading,
 }
 
 // The statements of a block, and its closing expression.
 struct Body {
+    pub at: Reading,
     pub list: Unfinished,
     pub closing: Maybe,
-    pub at: Reading,
 }
 
 // A refusal, unless there was one before.

@@ -37,23 +37,23 @@ pub enum Maybe {
 // What a function answers, and where reading then stands: a number (a node's, a token's kind), a test, a node that may be
 // missing, a node that is still open.
 pub struct Got {
-    pub it: u32,
     pub at: Reading,
+    pub it: u32,
 }
 
 pub struct Told {
-    pub is: bool,
     pub at: Reading,
+    pub is: bool,
 }
 
 pub struct Found {
-    pub it: Maybe,
     pub at: Reading,
+    pub it: Maybe,
 }
 
 pub struct Opened {
-    pub it: Unfinished,
     pub at: Reading,
+    pub it: Unfinished,
 }
 
 // A reading that is refused from here on.

@@ -1,4 +1,6 @@
 // Reports: the emit functions.
+ghost use mathlib.Core.List.{List};
+ghost use Prim.Native.Nat.{ℕ};
 ghost use Rattle.definition.specs.Prog.{memory};
 ghost use Rattle.reading.specs.Leaves.{Reports};
 ghost use Rattle.literals.specs.Spelling.{span};
@@ -7,21 +9,16 @@ use definition::State;
 use words::REPORT_WIDTH;
 use words::Report;
 
-// A report, where there is room for it.
-pub fn emit(
-    d: u32,
+// A report, where there is room for it. No more than the words of reports is lent, so it is said for all nodes and values.
+pub fn tell(
     s: Reading,
-    text: &[u8],
-    tokens: &[u32],
-    nodes: &mut [u32],
-    values: &mut [u32],
     reports: &mut [u32],
     kind: u32,
     detail: u32,
     start: u32,
     end: u32,
 ) -> Reading
-    ensures { λ r. ⌜ Reports kind detail (span start end) s (memory (now (nodes .entry)) (now (values .entry)) (now (reports .entry))) r (memory (now (nodes .exit)) (now (values .exit)) (now (reports .exit))) ⌝ }
+    ensures { λ r. ⌜ ((ns vs : List ℕ) → Reports kind detail (span start end) s (memory ns vs (now (reports .entry))) r (memory ns vs (now (reports .exit)))) ⌝ }
 {
     if s.refusal != 0 {
         return s;
@@ -54,4 +51,23 @@ pub fn emit(
         refusal: 0,
         place: 0,
     }
+}
+
+// The same, lent what all functions of the parser are.
+pub fn emit(
+    d: u32,
+    s: Reading,
+    text: &[u8],
+    tokens: &[u32],
+    nodes: &mut [u32],
+    values: &mut [u32],
+    reports: &mut [u32],
+    kind: u32,
+    detail: u32,
+    start: u32,
+    end: u32,
+) -> Reading
+    ensures { λ r. ⌜ Reports kind detail (span start end) s (memory (now (nodes .entry)) (now (values .entry)) (now (reports .entry))) r (memory (now (nodes .exit)) (now (values .exit)) (now (reports .exit))) ⌝ }
+{
+    tell(s, reports, kind, detail, start, end)
 }

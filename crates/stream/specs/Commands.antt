@@ -10,13 +10,16 @@ use lib.Seq.{drop-cons}
 use lib.Dec.{ltb}
 use Rattle.words.specs.Words.{tokenEnd}
 use Rattle.words.specs.Report
+use Rattle.words.specs.Token
 use Rattle.literals.specs.declared.Span.{Span}
 use Rattle.literals.specs.Spelling.{span, tokenStart, wordAt}
-use Rattle.definition.specs.Prog.{Act, Turn, again, stop, _>>=_, _>>_, if_then_else_, Memory, done, kindAt, passed, skipTrivia, isMarked, markedHere, peek, pass, here, before, marked, position, emit, emitAndMark, eval}
+use Rattle.definition.specs.declared.Cursor.{Cursor}
+use Rattle.definition.specs.Prog.{Act, Turn, again, stop, _>>=_, _>>_, if_then_else_, Memory, done, kindAt, advanced, passed, skipTrivia, isMarked, markedHere, peek, pass, here, before, marked, position, emit, emitAndMark, eval}
 use Rattle.definition.specs.Tokens.{contains, emitUnexpected}
 use Rattle.reading.specs.declared.Reading.{Reading}
 use Rattle.reading.specs.Does.{Does, view, from, run, then-view}
-use Rattle.stream.specs.Skip.{kind-any}
+use Rattle.stream.specs.Skip.{moved, kind-any}
+use Rattle.stream.specs.Trivia.{stays-here, passes-here}
 
 module _ (text tokens : List ℕ) (d : ℕ) (s r : Reading) (m m₁ : Memory) (e : view tt r m₁ ≡ from s m (skipTrivia text tokens)) where
   pub peek-is : (k : ℕ) → k ≡ kindAt [] tokens (r .state .cursor) → Does text tokens d peek s m k r m₁
@@ -27,6 +30,12 @@ module _ (text tokens : List ℕ) (d : ℕ) (s r : Reading) (m m₁ : Memory) (e
 
   pub pass-is : (r₂ : Reading) (m₂ : Memory) → view tt r₂ m₂ ≡ from r m₁ (passed text tokens) → Does text tokens d pass s m tt r₂ m₂
   pass-is r₂ m₂ f = record { is = λ w. then-view tt tt s r r₂ m m₁ m₂ (skipTrivia text tokens) (run text tokens d pass) (λ _ t n. passed text tokens t n) e f (λ t n. unfold eval in refl) }
+
+-- A token of a kind below that of blanks is passed by a step of the cursor.
+pub pass-here : {text tokens : List ℕ} {d : ℕ} {s next : Reading} {m : Memory} {c : Cursor} (k : ℕ) → k ≡ kindAt [] tokens (s .state .cursor) → k < Token.Whitespace
+    → c ≡ advanced (s .state .cursor) → next ≡ moved s c → Does text tokens d pass s m tt next m
+pass-here {text = text} {tokens = tokens} {d = d} {s = s} {next = next} {m = m} {c = c} k ek h ec en =
+    pass-is text tokens d s s m m (stays-here text tokens s m k ek h) next m (passes-here text tokens s m k ek h c next ec en)
 
 -- Commands that only look.
 module _ {text tokens : List ℕ} {d : ℕ} {r : Reading} {m : Memory} where

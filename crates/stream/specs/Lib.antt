@@ -1,4 +1,5 @@
 pub mod Skip
 pub mod Trivia
 pub mod Commands
+pub mod Eaten
 pub mod Delimited

@@ -15,7 +15,7 @@ use Rattle.words.specs.Report
 use Rattle.literals.specs.Spelling.{tokenStart, tokenSpan, span, wordAt}
 use Rattle.definition.specs.declared.Cursor.{Cursor}
 use Rattle.definition.specs.declared.State.{State}
-use Rattle.definition.specs.Prog.{Memory, Out, done, refused, withCursor, advanced, kindAt, passed, reported, isMarked}
+use Rattle.definition.specs.Prog.{Memory, memory, Out, done, refused, withCursor, advanced, kindAt, passed, reported, isMarked}
 use Rattle.definition.specs.Quiet.{word-inside}
 use Rattle.reading.specs.declared.Reading.{Reading}
 use Rattle.reading.specs.Does.{view, from}
@@ -23,6 +23,10 @@ use Rattle.reading.specs.Leaves.{Reports}
 
 abbrev pub moved : Reading → Cursor → Reading
 moved r c = record { state = withCursor c (r .state); refusal = r .refusal; place = r .place }
+
+-- A function that is lent no more than tokens and reports does this, whatever the text, the nodes and the values are.
+abbrev pub Whatever : (List ℕ → State → Memory → Out (Unit {0})) → Reading → List ℕ → Reading → List ℕ → Type 0
+Whatever does s reports r reports′ = (text ns vs : List ℕ) → view tt r (memory ns vs reports′) ≡ from s (memory ns vs reports) (does text)
 
 pub end-inside : (tokens : List ℕ) (i : ℕ) → i < length tokens → tokenEnd (getD tokens i 0) ≡ tokenEnd (wordAt tokens i)
 end-inside tokens i h = ap tokenEnd (word-inside tokens i h)

@@ -20,7 +20,7 @@ use Rattle.definition.specs.Quiet.{isQuiet, quietEnd, quiet-yes, quiet-no, adva
 use Rattle.reading.specs.declared.Reading.{Reading}
 use Rattle.reading.specs.Does.{view, from}
 use Rattle.reading.specs.Leaves.{reported-fits, reported-full}
-use Rattle.stream.specs.Skip.{moved, kind-any, passed-plain, passed-marked, passed-told}
+use Rattle.stream.specs.Skip.{moved, kind-any, passed-plain, passed-marked, passed-told, advance-plain}
 
 -- A quiet token is trivia and no error.
 quiet-known : (k : ℕ) → isQuiet k ≡ true → (isTrivia k ≡ true) × (lexError k ≡ Nothing)
@@ -209,3 +209,30 @@ module _ (text tokens : List ℕ) (r : Reading) (m : Memory) (q : Cursor) (r₁ 
           let s : r₂ .state ≡ t = cc in
           let c : r₂ .state .cursor ≡ record { at = q .at + 1; end = q .end } = ap (λ (x : State). x .cursor) s ∙ (g ∙ (ap advanced next ∙ sym (advanced-on q inside))) in
           rw c (omega (arith, inside, end′, far))
+
+-- The kinds below that of blanks are neither trivia nor errors.
+small-plain : (k : ℕ) → k < Token.Whitespace → (isTrivia k ≡ false) × (lexError k ≡ Nothing)
+unfolding isTrivia lexError
+small-plain k h =
+    let other : (n : ℕ) → Token.Whitespace ≤ n → eqb k n ≡ false = λ n l. ne-eqb k n (λ e. omega (arith, e, h, l)) in
+    rw (
+      other Token.Whitespace (omega arith),
+      other Token.LineComment (omega arith),
+      other Token.BlockComment (omega arith),
+      other Token.InvalidCharError (omega arith),
+      other Token.MalformedIdentError (omega arith),
+      other Token.MultilineStringError (omega arith),
+      other Token.UnclosedBlockCommentError (omega arith),
+      other Token.UnclosedStringError (omega arith),
+      other Token.AtWithoutIdentError (omega arith),
+    ) (refl, refl)
+
+-- Where the token at the cursor is of such a kind, nothing is skipped, and it is passed with no report.
+module _ (text tokens : List ℕ) (s : Reading) (m : Memory) (k : ℕ) (ek : k ≡ kindAt [] tokens (s .state .cursor)) (h : k < Token.Whitespace) where
+  pub stays-here : view tt s m ≡ from s m (skipTrivia text tokens)
+  stays-here =
+      ap (λ (o : Out (Unit {0})). cond (eqb (s .refusal) 0) o (refused (s .refusal) (s .place)))
+      (sym (skip-no text tokens (s .state .cursor .end - s .state .cursor .at) (s .state) m (ap isTrivia (sym (ek ∙ kind-any text tokens (s .state .cursor))) ∙ small-plain k h .0)))
+
+  pub passes-here : (c : Cursor) (next : Reading) → c ≡ advanced (s .state .cursor) → next ≡ moved s c → view tt next m ≡ from s m (passed text tokens)
+  passes-here c next ec en = advance-plain text tokens s m c next k (lexError k) ec en ek refl (small-plain k h .1)

@@ -1,11 +1,12 @@
 // Tokens as the parser sees them: from `advance` to `expect` of parser/mod.rs, but for what is in crate recovery.
 ghost use mathlib.Core.Path.{_≡_};
 ghost use mathlib.Core.Bool.{_||_};
-ghost use Prim.Native.Nat.{pred};
-ghost use Rattle.definition.specs.Prog.{memory, passed, skipTrivia, isMarked, peek, pass, emitAndMark};
+ghost use mathlib.Core.List.{List, []};
+ghost use Prim.Native.Nat.{ℕ, pred};
+ghost use Rattle.definition.specs.Prog.{kindAt, memory, passed, skipTrivia, isMarked, peek, pass, emitAndMark};
 ghost use Rattle.definition.specs.Tokens.{check, eat, eof, emitUnexpected, expect, contains};
-ghost use Rattle.reading.specs.Does.{Does, view, from, turnsOf};
-ghost use Rattle.stream.specs.Skip.{moved};
+ghost use Rattle.reading.specs.Does.{Does, turnsOf};
+ghost use Rattle.stream.specs.Skip.{moved, Whatever};
 ghost use Rattle.stream.specs.Commands.{markHere};
 ghost use Rattle.words.specs.Words.{tokenEnd};
 ghost use Rattle.literals.specs.Spelling.{span, tokenStart, wordAt};
@@ -78,17 +79,10 @@ pub fn is_marked(s: Reading) -> bool
 }
 
 // `advance`, where trivia was skipped before: the token at the cursor is passed, and reported where it is an error and
-// not marked.
-fn advance(
-    d: u32,
-    s: Reading,
-    text: &[u8],
-    tokens: &[u32],
-    nodes: &mut [u32],
-    values: &mut [u32],
-    reports: &mut [u32],
-) -> Reading
-    ensures { λ r. ⌜ view tt r (memory (now (nodes .exit)) (now (values .exit)) (now (reports .exit))) ≡ from s (memory (now (nodes .entry)) (now (values .entry)) (now (reports .entry))) (passed (now (text .entry)) (now (tokens .entry))) ⌝ }
+// not marked. This and what follows up to `pass_behind` is lent no more than it needs: the fewer arguments, the sooner it is compiled
+// into its callers.
+fn advance(s: Reading, tokens: &[u32], reports: &mut [u32]) -> Reading
+    ensures { λ r. ⌜ Whatever (λ (text : List ℕ). passed text (now (tokens .entry))) s (now (reports .entry)) r (now (reports .exit)) ⌝ }
 {
     let state = s.state;
     let cursor = state.cursor;
@@ -100,13 +94,8 @@ fn advance(
                 return next;
             }
             let at = cursor.at;
-            report::emit(
-                d,
+            report::tell(
                 next,
-                text,
-                tokens,
-                nodes,
-                values,
                 reports,
                 words::report::LEXER_ERROR,
                 error,
@@ -118,16 +107,8 @@ fn advance(
 }
 
 // `skip_trivia`. The cursor passes blanks and comments by itself; error tokens are passed one by one, each with its report.
-fn skip_trivia(
-    d: u32,
-    s: Reading,
-    text: &[u8],
-    tokens: &[u32],
-    nodes: &mut [u32],
-    values: &mut [u32],
-    reports: &mut [u32],
-) -> Reading
-    ensures { λ r. ⌜ view tt r (memory (now (nodes .exit)) (now (values .exit)) (now (reports .exit))) ≡ from s (memory (now (nodes .entry)) (now (values .entry)) (now (reports .entry))) (skipTrivia (now (text .entry)) (now (tokens .entry))) ⌝ }
+fn skip_trivia(s: Reading, tokens: &[u32], reports: &mut [u32]) -> Reading
+    ensures { λ r. ⌜ Whatever (λ (text : List ℕ). skipTrivia text (now (tokens .entry))) s (now (reports .entry)) r (now (reports .exit)) ⌝ }
 {
     let mut r = s;
     while r.refusal == 0 {
@@ -136,12 +117,46 @@ fn skip_trivia(
         let quiet = cursor.skip_trivia(tokens);
         r = move_to(r, quiet);
         if token::is_trivia(quiet.peek(tokens)) {
-            r = advance(d, r, text, tokens, nodes, values, reports);
+            r = advance(r, tokens, reports);
         } else {
             return r;
         }
     }
     r
+}
+
+// The kind of the next token that is no trivia, which is skipped.
+fn look_behind(s: Reading, tokens: &[u32], reports: &mut [u32]) -> Got
+    ensures { λ r. ⌜ (r .it ≡ kindAt [] (now (tokens .entry)) (r .at .state .cursor)) × Whatever (λ (text : List ℕ). skipTrivia text (now (tokens .entry))) s (now (reports .entry)) (r .at) (now (reports .exit)) ⌝ }
+{
+    let at = skip_trivia(s, tokens, reports);
+    let state = at.state;
+    let cursor = state.cursor;
+    Got {
+        it: cursor.peek(tokens),
+        at,
+    }
+}
+
+// The same. Mostly the token at the cursor is no trivia, and there is no more to do; so that alone is compiled into the callers.
+fn look(s: Reading, tokens: &[u32], reports: &mut [u32]) -> Got
+    ensures { λ r. ⌜ (r .it ≡ kindAt [] (now (tokens .entry)) (r .at .state .cursor)) × Whatever (λ (text : List ℕ). skipTrivia text (now (tokens .entry))) s (now (reports .entry)) (r .at) (now (reports .exit)) ⌝ }
+{
+    let state = s.state;
+    let cursor = state.cursor;
+    let kind = cursor.peek(tokens);
+    if kind < token::WHITESPACE {
+        return Got { it: kind, at: s };
+    }
+    look_behind(s, tokens, reports)
+}
+
+// The next token that is no trivia passed.
+fn pass_behind(s: Reading, tokens: &[u32], reports: &mut [u32]) -> Reading
+    ensures { λ r. ⌜ ((text ns vs : List ℕ) (d : ℕ) → Does text (now (tokens .entry)) d pass s (memory ns vs (now (reports .entry))) tt r (memory ns vs (now (reports .exit)))) ⌝ }
+{
+    let found = look_behind(s, tokens, reports);
+    advance(found.at, tokens, reports)
 }
 
 // The kind of the next token that is no trivia.
@@ -156,13 +171,7 @@ pub fn peek(
 ) -> Got
     ensures { λ r. ⌜ Does (now (text .entry)) (now (tokens .entry)) d peek s (memory (now (nodes .entry)) (now (values .entry)) (now (reports .entry))) (r .it) (r .at) (memory (now (nodes .exit)) (now (values .exit)) (now (reports .exit))) ⌝ }
 {
-    let at = skip_trivia(d, s, text, tokens, nodes, values, reports);
-    let state = at.state;
-    let cursor = state.cursor;
-    Got {
-        it: cursor.peek(tokens),
-        at,
-    }
+    look(s, tokens, reports)
 }
 
 // That token passed.
@@ -177,8 +186,12 @@ pub fn pass(
 ) -> Reading
     ensures { λ r. ⌜ Does (now (text .entry)) (now (tokens .entry)) d pass s (memory (now (nodes .entry)) (now (values .entry)) (now (reports .entry))) tt r (memory (now (nodes .exit)) (now (values .exit)) (now (reports .exit))) ⌝ }
 {
-    let at = skip_trivia(d, s, text, tokens, nodes, values, reports);
-    advance(d, at, text, tokens, nodes, values, reports)
+    let state = s.state;
+    let cursor = state.cursor;
+    if cursor.peek(tokens) < token::WHITESPACE {
+        return move_to(s, cursor.advance());
+    }
+    pass_behind(s, tokens, reports)
 }
 
 pub fn check(
@@ -213,13 +226,19 @@ pub fn eat(
 ) -> Told
     ensures { λ r. ⌜ Does (now (text .entry)) (now (tokens .entry)) d (eat token) s (memory (now (nodes .entry)) (now (values .entry)) (now (reports .entry))) (r .is) (r .at) (memory (now (nodes .exit)) (now (values .exit)) (now (reports .exit))) ⌝ }
 {
-    let found = check(d, s, text, tokens, nodes, values, reports, token);
-    let at = found.at;
-    if found.is {
-        let past = pass(d, at, text, tokens, nodes, values, reports);
-        return Told { is: true, at: past };
+    let found = look(s, tokens, reports);
+    let is = found.it == token;
+    let mut at = found.at;
+    if is {
+        if token < token::WHITESPACE {
+            let state = at.state;
+            let cursor = state.cursor;
+            at = move_to(at, cursor.advance());
+        } else {
+            at = pass_behind(at, tokens, reports);
+        }
     }
-    Told { is: false, at }
+    Told { is, at }
 }
 
 pub fn eof(

@@ -16,8 +16,8 @@ pub enum Count {
 
 // The offset of a value, and where reading then stands.
 pub struct Stored {
-    pub it: usize,
     pub at: Reading,
+    pub it: usize,
 }
 
 // The counts that a value's first word can tell.

@@ -26,7 +26,7 @@ is-marked-requires : tie.Need-is-marked-requires
 is-marked-requires c κs = search needs
 
 returns : tie.Need-returns
-returns c =
+returns c text ns vs =
     let at-is-marked = c .before in
     let at-error = at-is-marked .before .before in
     let at-lex-error = at-error .before .before in
@@ -42,11 +42,11 @@ token-start-requires c κs = search needs
 token-end-requires : tie.Need-token-end-requires
 token-end-requires c κs = search needs
 
-emit-requires : tie.Need-emit-requires
-emit-requires c κs = search needs
+tell-requires : tie.Need-tell-requires
+tell-requires c κs = search needs
 
 returns-2 : tie.Need-returns-2
-returns-2 c =
+returns-2 c text ns vs =
     let at-lex-error = c .before .before in
     let at-peek = at-lex-error .before in
     let at-move-to = at-peek .before in
@@ -57,18 +57,12 @@ returns-2 c =
 same-length : tie.Need-same-length
 same-length c = search needs
 
-same-length-2 : tie.Need-same-length-2
-same-length-2 c = search needs
-
-same-length-3 : tie.Need-same-length-3
-same-length-3 c = search needs
-
 returns-3 : tie.Need-returns-3
-returns-3 c =
-    let at-emit = c .before .before .before .before .before .before in
-    let at-token-end = at-emit .before in
+returns-3 c text ns vs =
+    let at-tell = c .before .before in
+    let at-token-end = at-tell .before in
     let at-token-start = at-token-end .before in
-    let at-if1 = at-token-start .before .before .before .before in
+    let at-if1 = at-token-start .before .before in
     let at-is-marked = at-if1 .before in
     let at-error = at-is-marked .before .before in
     let at-lex-error = at-error .before .before in
@@ -78,7 +72,7 @@ returns-3 c =
     advance-told _ _ _ _ _ _ _ _ (at-advance .advance .ensures .0) (at-move-to .move-to .ensures) (at-peek .peek .ensures)
     (at-lex-error .lex-error .ensures) _ _ _ _ _ _
     (at-error .error .given .1) (at-is-marked .is-marked .ensures) (at-if1 .if1 .left) (at-token-start .token-start .ensures)
-    (at-token-end .token-end .ensures) (at-emit .emit .ensures)
+    (at-token-end .token-end .ensures) (at-tell .tell .ensures ns vs)
 
 pub advance-spec : {M : Type 1} → statement M
 advance-spec =
@@ -94,9 +88,7 @@ advance-spec =
     returns
     token-start-requires
     token-end-requires
-    emit-requires
+    tell-requires
     returns-2
     same-length
-    same-length-2
-    same-length-3
     returns-3)

@@ -1,42 +1,35 @@
 -- `pass` meets its contract.
-use Rattle.definition.specs.Prog.{memory}
-use Rattle.stream.specs.Commands.{pass-is}
+use Rattle.stream.specs.Commands.{pass-here}
 use borrow.Author.Needs.{needs}
 use Rattle.stream.proofs.pass.Statement.{statement}
 use Rattle.stream.proofs.pass.Tie as tie
 
-skip-trivia-requires : tie.Need-skip-trivia-requires
-skip-trivia-requires c κs = search needs
+peek-requires : tie.Need-peek-requires
+peek-requires c κs = search needs
 
 advance-requires : tie.Need-advance-requires
 advance-requires c κs = search needs
 
-same-length : tie.Need-same-length
-same-length c = search needs
-
-same-length-2 : tie.Need-same-length-2
-same-length-2 c = search needs
-
-same-length-3 : tie.Need-same-length-3
-same-length-3 c = search needs
+move-to-requires : tie.Need-move-to-requires
+move-to-requires c κs = search needs
 
 returns : tie.Need-returns
 returns c =
-    let at-advance = c .before .before .before .before .before .before in
-    let at-skip-trivia = at-advance .before .before .before .before .before .before .before .before .before .before in
-    let at-args = at-skip-trivia .before .before .before .before .before .before .before .before .before in
-    pass-is (at-args .args .text .now) (at-args .args .tokens .now) _ (at-args .args .s) (at-skip-trivia .skip-trivia .result)
-    (memory (at-args .args .nodes .now) (at-args .args .values .now) (at-args .args .reports .now))
-    (memory (at-skip-trivia .skip-trivia .last .1 .1 .1 .1 .0) (at-skip-trivia .skip-trivia .last .1 .1 .1 .1 .1 .0)
-    (at-skip-trivia .skip-trivia .last .1 .1 .1 .1 .1 .1 .0)) (at-skip-trivia .skip-trivia .ensures) _ _ (at-advance .advance .ensures)
+    let at-advance = c .before in
+    let at-if1 = at-advance .before in
+    let at-peek = at-if1 .before in
+    pass-here _ (at-peek .peek .ensures) (at-if1 .if1 .taken) (at-advance .advance .ensures .0) (c .move-to .ensures)
+
+pass-behind-requires : tie.Need-pass-behind-requires
+pass-behind-requires c κs = search needs
+
+same-length : tie.Need-same-length
+same-length c = search needs
+
+returns-2 : tie.Need-returns-2
+returns-2 c = c .before .before .pass-behind .ensures _ _ _ _
 
 pub pass-spec : {M : Type 1} → statement M
 pass-spec =
     tie.close
-    (tie.spec
-    skip-trivia-requires
-    advance-requires
-    same-length
-    same-length-2
-    same-length-3
-    returns)
+    (tie.spec peek-requires advance-requires move-to-requires returns pass-behind-requires same-length returns-2)

@@ -1,5 +1,7 @@
 -- `skip_trivia` meets its contract: what is left to do from `r` on comes to what the whole comes to.
 use mathlib.Core.Path.{_≡_, refl, _∙_}
+use mathlib.Core.List.{List, []}
+use Prim.Native.Nat.{ℕ}
 use lib.ListN.{length}
 use Rattle.definition.specs.Prog.{memory, skipTrivia}
 use Rattle.reading.specs.Does.{from}
@@ -9,15 +11,15 @@ use Rattle.stream.proofs.skip_trivia.Statement.{statement}
 use Rattle.stream.proofs.skip_trivia.Tie as tie
 
 abbrev Inv-loop : tie.InvT-loop
-Inv-loop d text tokens nodes₀ values₀ reports₀ r₀ nodes values reports r =
-    (from r (memory nodes values reports) (skipTrivia text tokens) ≡ from r₀ (memory nodes₀ values₀ reports₀) (skipTrivia text tokens)) ×
-    (length nodes ≡ length nodes₀) × (length values ≡ length values₀) × (length reports ≡ length reports₀)
+Inv-loop tokens reports₀ r₀ reports r =
+    ((text ns vs : List ℕ) → from r (memory ns vs reports) (skipTrivia text tokens) ≡ from r₀ (memory ns vs reports₀) (skipTrivia text tokens)) ×
+    (length reports ≡ length reports₀)
 
 abbrev μ-loop : tie.MeasureT-loop
-μ-loop d text tokens nodes₀ values₀ reports₀ r₀ nodes values reports r = left r
+μ-loop tokens reports₀ r₀ reports r = left r
 
 loop-holds : tie.Need-loop-holds Inv-loop μ-loop
-loop-holds c = (refl, refl, refl, refl)
+loop-holds c = (λ text ns vs. refl, refl)
 
 skip-trivia-requires : tie.Need-skip-trivia-requires Inv-loop μ-loop
 skip-trivia-requires c κs = search needs
@@ -36,61 +38,44 @@ advance-requires c κs = search needs
 
 loop-less : tie.Need-loop-less Inv-loop μ-loop
 loop-less c =
-    let at-advance = c .before .before .before .before .before .before in
-    let at-if2 = at-advance .before .before .before .before in
+    let at-advance = c .before .before in
+    let at-if2 = at-advance .before .before in
     let at-is-trivia = at-if2 .before in
     let at-peek = at-is-trivia .before in
     let at-move-to = at-peek .before in
     let at-skip-trivia = at-move-to .before in
     let at-if1 = at-skip-trivia .before .before .before in
     let at-loop = at-if1 .before .before in
-    let at-args = at-loop .before .before .before .before .before .before in
-    skip-falls (at-args .args .text .now) (at-args .args .tokens .now) (at-loop .loop .r)
-    (memory (at-loop .loop .nodes) (at-loop .loop .values) (at-loop .loop .reports)) _ _ (at-advance .advance .result)
-    (memory (at-advance .advance .last .1 .1 .1 .1 .0) (at-advance .advance .last .1 .1 .1 .1 .1 .0)
-    (at-advance .advance .last .1 .1 .1 .1 .1 .1 .0)) _ _ (at-if1 .if1 .taken) (at-skip-trivia .skip-trivia .ensures .0)
+    skip-falls [] _ (at-loop .loop .r) (memory [] [] (at-loop .loop .reports)) _ _ (at-advance .advance .result)
+    (memory [] [] (at-advance .advance .last .1 .1 .0)) _ _ (at-if1 .if1 .taken) (at-skip-trivia .skip-trivia .ensures .0)
     (at-skip-trivia .skip-trivia .ensures .1) (at-move-to .move-to .ensures) (at-peek .peek .ensures) (at-is-trivia .is-trivia .ensures)
-    (at-if2 .if2 .taken) (at-advance .advance .ensures)
+    (at-if2 .if2 .taken) (at-advance .advance .ensures [] [] [])
 
 loop-again : tie.Need-loop-again Inv-loop μ-loop
 loop-again c =
-    let at-advance = c .before .before .before .before .before .before in
-    let at-if2 = at-advance .before .before .before .before in
+    let at-advance = c .before .before in
+    let at-if2 = at-advance .before .before in
     let at-is-trivia = at-if2 .before in
     let at-peek = at-is-trivia .before in
     let at-move-to = at-peek .before in
     let at-skip-trivia = at-move-to .before in
     let at-if1 = at-skip-trivia .before .before .before in
-    let at-loop = at-if1 .before .before in
-    let at-args = at-loop .before .before .before .before .before .before in (
-      skip-next (at-args .args .text .now) (at-args .args .tokens .now) (at-loop .loop .r)
-          (memory (at-loop .loop .nodes) (at-loop .loop .values) (at-loop .loop .reports)) _ _ _ _ _ (at-if1 .if1 .taken)
+    let at-loop = at-if1 .before .before in (
+      λ text ns vs.
+          skip-next text _ (at-loop .loop .r) (memory ns vs (at-loop .loop .reports)) _ _ _ _ _ (at-if1 .if1 .taken)
           (at-skip-trivia .skip-trivia .ensures .0) (at-move-to .move-to .ensures) (at-peek .peek .ensures) (at-is-trivia .is-trivia .ensures)
-          (at-loop .loop .inv .0) (at-advance .advance .result)
-          (memory (at-advance .advance .last .1 .1 .1 .1 .0) (at-advance .advance .last .1 .1 .1 .1 .1 .0)
-          (at-advance .advance .last .1 .1 .1 .1 .1 .1 .0)) (at-if2 .if2 .taken) (at-advance .advance .ensures),
-      at-advance .advance .kept .1 .1 .1 .1 .0 ∙ at-loop .loop .inv .1,
-      at-advance .advance .kept .1 .1 .1 .1 .1 .0 ∙ at-loop .loop .inv .2,
-      at-advance .advance .kept .1 .1 .1 .1 .1 .1 .0 ∙ at-loop .loop .inv .3,
+          (at-loop .loop .inv .0 text ns vs) (at-advance .advance .result) (memory ns vs (at-advance .advance .last .1 .1 .0)) (at-if2 .if2 .taken)
+          (at-advance .advance .ensures text ns vs),
+      at-advance .advance .kept .1 .1 .0 ∙ at-loop .loop .inv .1,
     )
 
 same-length : tie.Need-same-length Inv-loop μ-loop
 same-length c =
-    let at-loop = c .before .before .before .before .before .before .before .before .before in
-    at-loop .loop .inv .1
-
-same-length-2 : tie.Need-same-length-2 Inv-loop μ-loop
-same-length-2 c =
-    let at-loop = c .before .before .before .before .before .before .before .before .before in
-    at-loop .loop .inv .2
-
-same-length-3 : tie.Need-same-length-3 Inv-loop μ-loop
-same-length-3 c =
-    let at-loop = c .before .before .before .before .before .before .before .before .before in
-    at-loop .loop .inv .3
+    let at-if1 = c .before .before .before .before .before .before .before in
+    at-if1 .before .before .loop .inv .1
 
 returns : tie.Need-returns Inv-loop μ-loop
-returns c =
+returns c text ns vs =
     let at-is-trivia = c .before in
     let at-peek = at-is-trivia .before in
     let at-move-to = at-peek .before in
@@ -98,19 +83,13 @@ returns c =
     let at-if1 = at-skip-trivia .before .before .before in
     let at-loop = at-if1 .before .before in
     skip-stop _ _ _ _ _ _ _ _ _ (at-if1 .if1 .taken) (at-skip-trivia .skip-trivia .ensures .0) (at-move-to .move-to .ensures)
-    (at-peek .peek .ensures) (at-is-trivia .is-trivia .ensures) (at-loop .loop .inv .0) (c .if2 .left)
+    (at-peek .peek .ensures) (at-is-trivia .is-trivia .ensures) (at-loop .loop .inv .0 text ns vs) (c .if2 .left)
 
-same-length-4 : tie.Need-same-length-4 Inv-loop μ-loop
-same-length-4 c = c .before .before .loop .inv .1
-
-same-length-5 : tie.Need-same-length-5 Inv-loop μ-loop
-same-length-5 c = c .before .before .loop .inv .2
-
-same-length-6 : tie.Need-same-length-6 Inv-loop μ-loop
-same-length-6 c = c .before .before .loop .inv .3
+same-length-2 : tie.Need-same-length-2 Inv-loop μ-loop
+same-length-2 c = c .before .before .loop .inv .1
 
 returns-2 : tie.Need-returns-2 Inv-loop μ-loop
-returns-2 c = skip-refused _ _ _ _ _ (c .if1 .left) (c .before .before .loop .inv .0)
+returns-2 c text ns vs = skip-refused _ _ _ _ _ (c .if1 .left) (c .before .before .loop .inv .0 text ns vs)
 
 pub skip-trivia-spec : {M : Type 1} → statement M
 skip-trivia-spec =
@@ -127,10 +106,6 @@ skip-trivia-spec =
     loop-less
     loop-again
     same-length
-    same-length-2
-    same-length-3
     returns
-    same-length-4
-    same-length-5
-    same-length-6
+    same-length-2
     returns-2)
