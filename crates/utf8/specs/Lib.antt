@@ -3,3 +3,4 @@ pub mod Bytes
 pub mod Rows
 pub mod Laws
 pub mod Examples
+pub mod Ascii

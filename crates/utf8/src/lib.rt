@@ -1,9 +1,11 @@
 // UTF-8 (RFC 3629): whether a text is well-formed, and the character at an offset.
 ghost use mathlib.Core.Path.{_≡_};
+ghost use mathlib.Core.Bool.{true};
 ghost use Prim.Native.Nat.{_+_, _-_, _*_, _%_, _≤_, _<_};
 ghost use lib.ListN.{length, getD, take, drop};
 ghost use Rattle.utf8.specs.Utf8.{checked, characterAt, codePoint, sequence, follow};
 ghost use Rattle.utf8.specs.Rows.{ranges};
+ghost use Rattle.utf8.specs.Ascii.{Ascii};
 
 // How a sequence is wrong: its first byte starts none, a later byte is not allowed there, or the text ends inside it.
 pub enum Way {
@@ -95,15 +97,32 @@ fn sequence_at(text: &[u8], at: usize) -> Sequence
     Sequence::Wrong(Way::NoStart)
 }
 
+// Whether the eight bytes from `at` on are there, and ASCII: one test for all, as most texts are nothing else.
+fn are_ascii(text: &[u8], at: usize) -> bool
+    requires { ⌜ at ≤ length (now text) ⌝ }
+    ensures { λ r. ⌜ (r ≡ true → Ascii (now (text .entry)) at 8) ⌝ }
+{
+    if text.len() - at < 8 {
+        return false;
+    }
+    let first = text[at] | text[at + 1] | text[at + 2] | text[at + 3];
+    let second = text[at + 4] | text[at + 5] | text[at + 6] | text[at + 7];
+    (first | second) < 0x80
+}
+
 // Whether `text` is well-formed.
 pub fn check(text: &[u8]) -> Checked
     ensures { λ r. ⌜ r ≡ checked (now (text .entry)) ⌝ }
 {
     let mut at = 0;
     while at < text.len() {
-        match sequence_at(text, at) {
-            Sequence::Right(n) => at += n,
-            Sequence::Wrong(way) => return Checked::Bad(way, at),
+        if are_ascii(text, at) {
+            at += 8;
+        } else {
+            match sequence_at(text, at) {
+                Sequence::Right(n) => at += n,
+                Sequence::Wrong(way) => return Checked::Bad(way, at),
+            }
         }
     }
     Checked::Good
