@@ -50,6 +50,10 @@ module _ (text tokens : List ℕ) (i : ℕ) where
   unfolding matches
   matches-itself = rw (eq-eqb (kindAt tokens i) (kindAt tokens i) refl, alike-same (spelling text tokens i))
 
+  pub matches-both : (j : ℕ) → kindAt tokens i ≡ kindAt tokens j → spelling text tokens i ≡ spelling text tokens j → matches text tokens i j ≡ true
+  unfolding matches
+  matches-both j e f = rw (e, f, eq-eqb (kindAt tokens j) (kindAt tokens j) refl, alike-same (spelling text tokens j))
+
   module _ (j : ℕ) (m : matches text tokens i j ≡ true) where
     pub same-kind : kindAt tokens j ≡ kindAt tokens i
     unfolding matches
@@ -78,23 +82,24 @@ module _ (text tokens : List ℕ) (i : ℕ) where
     unfolding tokenStart
     start = refl
 
-    -- Token `i` itself is spelled so.
-    first-upto : (d n : ℕ) → n + d ≡ i → fromAt n ≤ i
+    -- Token `i` itself is spelled so, and what is found is.
+    first-upto : (d n : ℕ) → n + d ≡ i → (fromAt n ≤ i) × (matches text tokens i (fromAt n) ≡ true)
     first-upto zero n e =
         let z : n ≡ i = omega arith in
         let f : fromAt n ≡ n = here n (omega arith) (rw z matches-itself) in
-        omega arith
+        (omega arith, rw (f, z) matches-itself)
     first-upto (suc d) n e = go (matches text tokens i n) refl (first-upto d (n + 1) (omega arith))
       where
-        go : (b : Bool) → matches text tokens i n ≡ b → fromAt (n + 1) ≤ i → fromAt n ≤ i
-        go true g r = let f : fromAt n ≡ n = here n (omega arith) g in omega arith
-        go false g r = let f : fromAt n ≡ fromAt (n + 1) = on n (omega arith) g in omega arith
+        go : (b : Bool) → matches text tokens i n ≡ b → (fromAt (n + 1) ≤ i) × (matches text tokens i (fromAt (n + 1)) ≡ true)
+            → (fromAt n ≤ i) × (matches text tokens i (fromAt n) ≡ true)
+        go true g r = let f : fromAt n ≡ n = here n (omega arith) g in (omega arith, rw f g)
+        go false g r = rw (on n (omega arith) g) r
 
     pub first-low : firstName text tokens i ≤ i
-    first-low = rw start (first-upto i 0 (omega arith))
+    first-low = rw start (first-upto i 0 (omega arith) .0)
 
-    pub first-small : (first n : ℕ) → first ≡ firstName text tokens i → i < n → first < n
-    first-small first n e l = let z = first-low in omega arith
+    pub first-matches : matches text tokens i (firstName text tokens i) ≡ true
+    first-matches = rw start (first-upto i 0 (omega arith) .1)
 
     -- Where no token before it is.
     first-alone : ((j : ℕ) → j < i → matches text tokens i j ≡ true → ⊥) → (d n : ℕ) → n + d ≡ i → fromAt n ≡ i

@@ -1,7 +1,9 @@
 pub mod Told
 pub mod Same
 pub mod Alike
+pub mod Order
 pub mod Hash
-pub mod Chain
+pub mod Tree
 pub mod Table
 pub mod State
+pub mod Search

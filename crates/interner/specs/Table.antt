@@ -9,13 +9,13 @@ use lib.Dec.{eqb, ltb, leb}
 use lib.ListN.{length, getD, set, take, length-set}
 use lib.Seq.{getD-set-same, getD-set-other, take-set-le}
 use Rattle.literals.specs.Spelling.{spelling, firstAlike}
-use Rattle.reading.specs.Source.{tableStart, tableEntries, entry, isName, isTold, firstOf, Right}
-use Rattle.spellings.specs.Names.{kindAt, kind-past}
-use Rattle.interner.specs.Same.{Inside, allInside, spelling-same, firsts-same}
+use Rattle.reading.specs.Source.{tableStart, slotAt, entry, isName, isTold, firstOf, Right}
+use Rattle.spellings.specs.Names.{kindAt}
+use Rattle.interner.specs.Same.{Inside, allInside, inside-of, spelling-same, firsts-same}
 use Rattle.interner.specs.Alike.{both, firstName}
-use Rattle.interner.specs.Chain.{nameAt}
+use Rattle.interner.specs.Order.{nameAt, no-name, namesRise, Ordered, ordered-of}
 
--- A source has room for the longest text, and for two bytes of each token that the table tells of.
+-- A source has room for the longest text, and for two bytes of each name: behind each other byte of the text there may end one.
 abbrev pub sourceLength : ℕ
 sourceLength = 131072
 
@@ -27,9 +27,9 @@ pub record Annotates (source text tokens : List ℕ) : Type 0 where
 
 -- Whether a source of so many bytes can be made of a text and its tokens.
 unfoldable pub annotatable : List ℕ → List ℕ → ℕ → Bool
-annotatable text tokens size = eqb size sourceLength && (leb (length text) tableStart && allInside tokens (length text))
+annotatable text tokens size = eqb size sourceLength && (leb (length text) tableStart && (allInside tokens (length text) && namesRise tokens))
 
--- By the tests of the three, in turn.
+-- By the tests of the four, in turn.
 module _ (text tokens : List ℕ) (size : ℕ) where
   pub other-size : (size ≡ sourceLength → ⊥) → false ≡ annotatable text tokens size
   unfolding annotatable
@@ -40,113 +40,131 @@ module _ (text tokens : List ℕ) (size : ℕ) where
     unfolding annotatable
     too-long l = rw (eq-eqb size sourceLength h, lt-leb (length text) tableStart l)
 
-    pub by-ends : length text ≤ tableStart → (b : Bool) → b ≡ allInside tokens (length text) → b ≡ annotatable text tokens size
-    unfolding annotatable
-    by-ends l b e = rw (eq-eqb size sourceLength h, le-leb (length text) tableStart l) e
+    module _ (l : length text ≤ tableStart) (a : Bool) (e : a ≡ allInside tokens (length text)) where
+      pub some-outside : a ≡ false → false ≡ annotatable text tokens size
+      unfolding annotatable
+      some-outside f = rw (eq-eqb size sourceLength h, le-leb (length text) tableStart l, ← e, f)
+
+      pub by-names : a ≡ true → (b : Bool) → b ≡ namesRise tokens → b ≡ annotatable text tokens size
+      unfolding annotatable
+      by-names f b g = rw (eq-eqb size sourceLength h, le-leb (length text) tableStart l, ← e, f) g
 
 unfoldable pub written : List ℕ → ℕ → ℕ → List ℕ
-written source i first = set (set source (tableStart + 2 * i) (first % 256)) (tableStart + 2 * i + 1) (first / 256)
+written source slot first = set (set source (65534 + 2 * slot) (first % 256)) (65535 + 2 * slot) (first / 256)
 
-module _ (source : List ℕ) (i first : ℕ) where
-  pub length-written : length (written source i first) ≡ length source
+module _ (source : List ℕ) (slot first : ℕ) where
+  pub length-written : length (written source slot first) ≡ length source
   unfolding written
   length-written = simp length-set
 
-  pub take-written : (n : ℕ) → n ≤ tableStart → take n (written source i first) ≡ take n source
-  unfolding written
-  take-written n h = take-set-le n _ _ _ (omega arith) ∙ take-set-le n _ _ _ (omega arith)
-
-  byte-other : (k : ℕ) → (k ≡ tableStart + 2 * i → ⊥) → (k ≡ tableStart + 2 * i + 1 → ⊥) → getD (written source i first) k 0 ≡ getD source k 0
+  byte-other : (k : ℕ) → (k ≡ 65534 + 2 * slot → ⊥) → (k ≡ 65535 + 2 * slot → ⊥) → getD (written source slot first) k 0 ≡ getD source k 0
   unfolding written
   byte-other k f g =
-      getD-set-other (set source (tableStart + 2 * i) (first % 256)) (tableStart + 2 * i + 1) k (first / 256) 0 g ∙ getD-set-other source (tableStart + 2 * i) k (first % 256) 0 f
+      getD-set-other (set source (65534 + 2 * slot) (first % 256)) (65535 + 2 * slot) k (first / 256) 0 g ∙ getD-set-other source (65534 + 2 * slot) k (first % 256) 0 f
 
-  pub entry-other : (j : ℕ) → (j ≡ i → ⊥) → entry (written source i first) j ≡ entry source j
-  entry-other j h =
-      rw (byte-other (tableStart + 2 * j) (λ e. h (omega arith)) (λ e. absurd (omega arith)), byte-other (tableStart + 2 * j + 1) (λ e. absurd (omega arith)) (λ e. h (omega arith)))
+  pub entry-other : (s : ℕ) → (s ≡ slot → ⊥) → entry (written source slot first) s ≡ entry source s
+  entry-other s h =
+      rw (byte-other (65534 + 2 * s) (λ e. h (omega arith)) (λ e. absurd (omega arith)), byte-other (65535 + 2 * s) (λ e. absurd (omega arith)) (λ e. h (omega arith)))
 
-  module _ (l : length source ≡ sourceLength) (h : i < tableEntries) where
-    pub entry-same : entry (written source i first) i ≡ first
+  module _ (l : length source ≡ sourceLength) (some : 0 < slot) (h : slot ≤ 32768) where
+    pub take-written : (n : ℕ) → n ≤ tableStart → take n (written source slot first) ≡ take n source
+    unfolding written
+    take-written n m = take-set-le n _ _ _ (omega arith) ∙ take-set-le n _ _ _ (omega arith)
+
+    pub entry-same : entry (written source slot first) slot ≡ first
     unfolding written
     entry-same =
-        let inner = set source (tableStart + 2 * i) (first % 256) in
-        let m : length inner ≡ length source = length-set source (tableStart + 2 * i) (first % 256) in
-        let a : getD (written source i first) (tableStart + 2 * i) 0 ≡ first % 256 = getD-set-other inner (tableStart + 2 * i + 1) (tableStart + 2 * i) (first / 256) 0 (λ e. absurd (omega arith)) ∙ getD-set-same source (tableStart + 2 * i) (first % 256) 0 (omega arith) in
-        let b : getD (written source i first) (tableStart + 2 * i + 1) 0 ≡ first / 256 = getD-set-same inner (tableStart + 2 * i + 1) (first / 256) 0 (omega arith) in
+        let inner = set source (65534 + 2 * slot) (first % 256) in
+        let m : length inner ≡ length source = length-set source (65534 + 2 * slot) (first % 256) in
+        let a : getD (written source slot first) (65534 + 2 * slot) 0 ≡ first % 256 = getD-set-other inner (65535 + 2 * slot) (65534 + 2 * slot) (first / 256) 0 (λ e. absurd (omega arith)) ∙ getD-set-same source (65534 + 2 * slot) (first % 256) 0 (omega arith) in
+        let b : getD (written source slot first) (65535 + 2 * slot) 0 ≡ first / 256 = getD-set-same inner (65535 + 2 * slot) (first / 256) 0 (omega arith) in
         omega arith
 
--- A source that begins with the text, and whose table is right for the tokens before `n`.
+-- A source that begins with the text, and whose table is right for the names before token `n`.
 pub record Table (text tokens source : List ℕ) (n : ℕ) : Type 0 where
   pub long : length source ≡ sourceLength
   pub fits : length text ≤ tableStart
   pub begins : take (length text) source ≡ text
-  pub right : (j : ℕ) → j < n → nameAt tokens j ≡ true → entry source j ≡ firstName text tokens j
+  pub inside : Inside tokens (length text)
+  pub order : Ordered tokens
+  pub right : (j : ℕ) → j < n → nameAt tokens j ≡ true → entry source (slotAt tokens j) ≡ firstName text tokens j
 
-module _ (text tokens source : List ℕ) where
+-- Before the first token nothing is told of.
+pub table-none : (text tokens source : List ℕ) → length source ≡ sourceLength → length text ≤ tableStart → take (length text) source ≡ text
+    → allInside tokens (length text) ≡ true → namesRise tokens ≡ true → Table text tokens source 0
+table-none text tokens source l f b e g = record { long = l; fits = f; begins = b; inside = inside-of tokens (length text) e; order = ordered-of tokens g; right = λ j h. absurd (omega arith) }
+
+module _ (text tokens source : List ℕ) (n : ℕ) (t : Table text tokens source n) where
+  pub slot-low : (j : ℕ) → 2 * slotAt tokens j ≤ length text + 1
+  slot-low j = let h = t .inside j in omega arith
+
   -- A token that is no name needs nothing in the table.
-  pub table-skip : (n : ℕ) → nameAt tokens n ≡ false → Table text tokens source n → Table text tokens source (n + 1)
-  table-skip n f t = record { long = t .long; fits = t .fits; begins = t .begins; right = right }
+  pub table-skip : nameAt tokens n ≡ false → Table text tokens source (n + 1)
+  table-skip f = record { long = t .long; fits = t .fits; begins = t .begins; inside = t .inside; order = t .order; right = right }
     where
-      right : (j : ℕ) → j < n + 1 → nameAt tokens j ≡ true → entry source j ≡ firstName text tokens j
+      right : (j : ℕ) → j < n + 1 → nameAt tokens j ≡ true → entry source (slotAt tokens j) ≡ firstName text tokens j
       right j h e = go (eqb j n) refl
         where
-          go : (b : Bool) → eqb j n ≡ b → entry source j ≡ firstName text tokens j
+          go : (b : Bool) → eqb j n ≡ b → entry source (slotAt tokens j) ≡ firstName text tokens j
           go true q = let z : j ≡ n = eqb-true j n q in absurd (true≢false (sym (rw z at e) ∙ f))
           go false q = t .right j (omega (arith, eqb-false j n q)) e
 
-  pub table-more : (n first : ℕ) → n < tableEntries → first ≡ firstName text tokens n → Table text tokens source n → Table text tokens (written source n first) (n + 1)
-  table-more n first l e t =
+  pub table-more : (first : ℕ) → nameAt tokens n ≡ true → first ≡ firstName text tokens n → Table text tokens (written source (slotAt tokens n) first) (n + 1)
+  table-more first name e =
       record {
-        long = length-written source n first ∙ t .long;
+        long = length-written source (slotAt tokens n) first ∙ t .long;
         fits = t .fits;
-        begins = take-written source n first (length text) (t .fits) ∙ t .begins;
+        begins = take-written source (slotAt tokens n) first (t .long) some low (length text) (t .fits) ∙ t .begins;
+        inside = t .inside;
+        order = t .order;
         right = right;
       }
     where
-      right : (j : ℕ) → j < n + 1 → nameAt tokens j ≡ true → entry (written source n first) j ≡ firstName text tokens j
+      some : 0 < slotAt tokens n
+      some = t .order .some n name
+
+      low : slotAt tokens n ≤ 32768
+      low = let h = slot-low n in let f = t .fits in omega arith
+
+      right : (j : ℕ) → j < n + 1 → nameAt tokens j ≡ true → entry (written source (slotAt tokens n) first) (slotAt tokens j) ≡ firstName text tokens j
       right j h f = go (eqb j n) refl
         where
-          go : (b : Bool) → eqb j n ≡ b → entry (written source n first) j ≡ firstName text tokens j
-          go true q = let z : j ≡ n = eqb-true j n q in rw z (entry-same source n first (t .long) l ∙ e)
-          go false q = entry-other source n first j (eqb-false j n q) ∙ t .right j (omega (arith, eqb-false j n q)) f
+          go : (b : Bool) → eqb j n ≡ b → entry (written source (slotAt tokens n) first) (slotAt tokens j) ≡ firstName text tokens j
+          go true q = let z : j ≡ n = eqb-true j n q in rw z (entry-same source (slotAt tokens n) first (t .long) some low ∙ e)
+          go false q =
+              let l : j < n = omega (arith, eqb-false j n q) in
+              let a = t .order .apart j n l f name in
+              entry-other source (slotAt tokens n) first (slotAt tokens j) (λ z. omega arith) ∙ t .right j l f
 
-  -- Past the tokens there is no name.
-  pub table-over : (n m : ℕ) → length tokens ≤ n → Table text tokens source n → Table text tokens source m
-  unfolding nameAt
-  table-over n m l t = record { long = t .long; fits = t .fits; begins = t .begins; right = right }
-    where
-      no-name : (j : ℕ) → length tokens ≤ j → nameAt tokens j ≡ false
-      no-name j h = rw (← kind-past tokens j h)
+-- The whole table: the source stands for the text.
+pub annotates : (text tokens source : List ℕ) → Table text tokens source (length tokens) → Annotates source text tokens
+unfolding firstOf isTold nameAt
+annotates text tokens source t = record { spells = spelling-same source text long (t .begins) tokens (t .inside); firsts = firsts; right = λ kind i. names kind i ∙ sym (firsts kind i) }
+  where
+    long : length text ≤ length source
+    long = let l = t .long in let f = t .fits in omega arith
 
-      right : (j : ℕ) → j < m → nameAt tokens j ≡ true → entry source j ≡ firstName text tokens j
-      right j h f = go (ltb j n) refl
-        where
-          go : (b : Bool) → ltb j n ≡ b → entry source j ≡ firstName text tokens j
-          go true q = t .right j (ltb-true j n q) f
-          go false q = absurd (true≢false (sym f ∙ no-name j (omega (arith, ltb-false j n q))))
+    firsts : (kind i : ℕ) → firstAlike source tokens kind i ≡ firstAlike text tokens kind i
+    firsts = firsts-same source text long (t .begins) tokens (t .inside)
 
-  -- The whole table: the source stands for the text.
-  pub annotates : Inside tokens (length text) → Table text tokens source tableEntries → Annotates source text tokens
-  unfolding firstOf isTold nameAt
-  annotates inside t = record { spells = spelling-same source text long (t .begins) tokens inside; firsts = firsts; right = λ kind i. names kind i ∙ sym (firsts kind i) }
-    where
-      long : length text ≤ length source
-      long = let l = t .long in let f = t .fits in omega arith
+    -- Past the tokens there is no name.
+    names-all : (j : ℕ) → nameAt tokens j ≡ true → entry source (slotAt tokens j) ≡ firstName text tokens j
+    names-all j f = go (ltb j (length tokens)) refl
+      where
+        go : (b : Bool) → ltb j (length tokens) ≡ b → entry source (slotAt tokens j) ≡ firstName text tokens j
+        go true q = t .right j (ltb-true j (length tokens) q) f
+        go false q = absurd (true≢false (sym f ∙ no-name tokens j (ltb-false j (length tokens) q)))
 
-      firsts : (kind i : ℕ) → firstAlike source tokens kind i ≡ firstAlike text tokens kind i
-      firsts = firsts-same source text long (t .begins) tokens inside
+    names : (kind i : ℕ) → firstOf source tokens kind i ≡ firstAlike text tokens kind i
+    names kind i = go (isTold source tokens kind i) refl
+      where
+        told : isTold source tokens kind i ≡ true → entry source (slotAt tokens i) ≡ firstAlike text tokens kind i
+        told e =
+            let (a, b) = both (ltb tableStart (length source)) (isName kind && eqb (kindAt tokens i) kind) e in
+            let (f, g) = both (isName kind) (eqb (kindAt tokens i) kind) b in
+            let z : kindAt tokens i ≡ kind = eqb-true (kindAt tokens i) kind g in
+            names-all i (rw z f) ∙ rw z
 
-      names : (kind i : ℕ) → firstOf source tokens kind i ≡ firstAlike text tokens kind i
-      names kind i = go (isTold source tokens kind i) refl
-        where
-          told : isTold source tokens kind i ≡ true → entry source i ≡ firstAlike text tokens kind i
-          told e =
-              let (a, b) = both (ltb tableStart (length source)) (ltb i tableEntries && (isName kind && eqb (kindAt tokens i) kind)) e in
-              let (c, d) = both (ltb i tableEntries) (isName kind && eqb (kindAt tokens i) kind) b in
-              let (f, g) = both (isName kind) (eqb (kindAt tokens i) kind) d in
-              let z : kindAt tokens i ≡ kind = eqb-true (kindAt tokens i) kind g in
-              t .right i (ltb-true i tableEntries c) (rw z f) ∙ rw z
-
-          go : (b : Bool) → isTold source tokens kind i ≡ b → cond b (entry source i) (firstAlike source tokens kind i) ≡ firstAlike text tokens kind i
-          go true e = told e
-          go false e = firsts kind i
+        go : (b : Bool) → isTold source tokens kind i ≡ b → cond b (entry source (slotAt tokens i)) (firstAlike source tokens kind i) ≡ firstAlike text tokens kind i
+        go true e = told e
+        go false e = firsts kind i

@@ -6,22 +6,20 @@ ghost use Prim.Native.Nat.{_≤_};
 ghost use lib.ListN.{length, take};
 ghost use Rattle.reading.specs.Source.{isTold, firstOf};
 ghost use Rattle.interner.specs.Same.{allInside};
+ghost use Rattle.interner.specs.Order.{namesRise};
 ghost use Rattle.interner.specs.Table.{Annotates, annotatable};
 
-mod chains;
 mod table;
+mod trees;
 
 // The bytes of a source that has a table.
 pub const SOURCE_BYTES: usize = 131072;
 
-// Whether there is a table, and token `i` is a name of this kind that it tells of.
+// Whether there is a table, and token `i` is a name of this kind.
 fn told(source: &[u8], tokens: &[u32], kind: u32, i: usize) -> bool
     ensures { λ r. ⌜ r ≡ isTold (now (source .entry)) (now (tokens .entry)) kind i ⌝ }
 {
     if source.len() <= table::START {
-        return false;
-    }
-    if table::ENTRIES <= i {
         return false;
     }
     if table::is_name(kind) {
@@ -36,7 +34,7 @@ pub fn first_of(source: &[u8], tokens: &[u32], kind: u32, i: u32) -> usize
 {
     let n = i as usize;
     if told(source, tokens, kind, n) {
-        return table::get(source, n);
+        return table::get(source, table::slot_at(tokens, n));
     }
     spellings::first_alike(source, tokens, kind, i)
 }
@@ -56,6 +54,28 @@ fn ends_inside(tokens: &[u32], n: usize) -> bool
     true
 }
 
+// Whether the names' places in the table rise, so that no two share one, and the number of each name fits two bytes. Lexing makes no others.
+fn names_rise(tokens: &[u32]) -> bool
+    ensures { λ r. ⌜ r ≡ namesRise (now (tokens .entry)) ⌝ }
+{
+    let mut i = 0;
+    let mut last = 0;
+    while i < tokens.len() {
+        if table::is_name(spellings::kind_at(tokens, i)) {
+            let slot = table::slot_at(tokens, i);
+            if slot <= last {
+                return false;
+            }
+            if table::START <= i {
+                return false;
+            }
+            last = slot;
+        }
+        i += 1;
+    }
+    true
+}
+
 // The source begins with the text.
 fn copy(text: &[u8], source: &mut [u8])
     requires { ⌜ length (now text) ≤ length (now source) ⌝ }
@@ -69,7 +89,7 @@ fn copy(text: &[u8], source: &mut [u8])
 }
 
 // The source of a text and its tokens: the text, and the table of its names. It answers false, and leaves what it was lent, where the
-// source has another length than a source has, the text is longer than any, or a token ends past it.
+// source has another length than a source has, the text is longer than any, a token ends past it, or names share a place in the table.
 pub fn annotate(text: &[u8], tokens: &[u32], source: &mut [u8]) -> bool
     ensures { λ r. ⌜ (r ≡ annotatable (now (text .entry)) (now (tokens .entry)) (length (now (source .entry)))) × (r ≡ true → Annotates (now (source .exit)) (now (text .entry)) (now (tokens .entry))) × (r ≡ false → now (source .exit) ≡ now (source .entry)) ⌝ }
 {
@@ -80,9 +100,11 @@ pub fn annotate(text: &[u8], tokens: &[u32], source: &mut [u8]) -> bool
         return false;
     }
     if ends_inside(tokens, text.len()) {
-        copy(text, source);
-        chains::tell(text, tokens, source);
-        return true;
+        if names_rise(tokens) {
+            copy(text, source);
+            trees::tell(text, tokens, source);
+            return true;
+        }
     }
     false
 }

@@ -1,16 +1,13 @@
-// The table of names behind the text: two bytes for each token, the low one first.
+// The table of names behind the text: two bytes for each name, the low one first.
 ghost use mathlib.Core.Path.{_≡_};
-ghost use Prim.Native.Nat.{_<_};
+ghost use Prim.Native.Nat.{_≤_, _<_};
 ghost use lib.ListN.{length, getD};
-ghost use Rattle.reading.specs.Source.{entry, isName};
+ghost use Rattle.reading.specs.Source.{slotAt, entry, isName};
 ghost use Rattle.interner.specs.Table.{sourceLength, written};
 use words::token;
 
 // No text has more bytes, so the table begins there.
 pub(crate) const START: usize = 65536;
-
-// Tokens from this one on are not in the table.
-pub(crate) const ENTRIES: usize = 32768;
 
 pub(crate) fn is_name(kind: u32) -> bool
     ensures { λ r. ⌜ r ≡ isName kind ⌝ }
@@ -21,14 +18,24 @@ pub(crate) fn is_name(kind: u32) -> bool
     kind == token::BUILTIN_NAME
 }
 
+// The place of token `i` in the table; past the words stands an Eof that ends at 0.
+pub(crate) fn slot_at(tokens: &[u32], i: usize) -> usize
+    ensures { λ r. ⌜ (r ≡ slotAt (now (tokens .entry)) i) × (r ≤ 16777216) ⌝ }
+{
+    if tokens.len() <= i {
+        return 0;
+    }
+    (words::token_end(tokens[i]) as usize + 1) / 2
+}
+
 pub(crate) fn wide(b: u8) -> usize
     ensures { λ r. ⌜ (r ≡ b) × (r < 256) ⌝ }
 {
     b as usize
 }
 
-// A byte of the source; past its end 0.
-fn byte(source: &[u8], n: usize) -> usize
+// A byte of the source, or of a name; past its end 0.
+pub(crate) fn byte(source: &[u8], n: usize) -> usize
     ensures { λ r. ⌜ (r ≡ getD (now (source .entry)) n 0) × (r < 256) ⌝ }
 {
     if n < source.len() {
@@ -37,21 +44,21 @@ fn byte(source: &[u8], n: usize) -> usize
     0
 }
 
-// What the table says of token `i`.
-pub(crate) fn get(source: &[u8], i: usize) -> usize
-    requires { ⌜ i < 32768 ⌝ }
-    ensures { λ r. ⌜ r ≡ entry (now (source .entry)) i ⌝ }
+// What the table says at a place.
+pub(crate) fn get(source: &[u8], slot: usize) -> usize
+    requires { ⌜ slot ≤ 16777216 ⌝ }
+    ensures { λ r. ⌜ r ≡ entry (now (source .entry)) slot ⌝ }
 {
-    let at = START + 2 * i;
-    byte(source, at) + 256 * byte(source, at + 1)
+    let at = 2 * slot;
+    byte(source, 65534 + at) + 256 * byte(source, 65535 + at)
 }
 
-// The table is told of token `i`.
-pub(crate) fn put(source: &mut [u8], i: usize, first: usize)
-    requires { ⌜ (length (now source) ≡ sourceLength) × (i < 32768) × (first < 65536) ⌝ }
-    ensures { λ _. ⌜ now (source .exit) ≡ written (now (source .entry)) i first ⌝ }
+// The table is told of the name at a place.
+pub(crate) fn put(source: &mut [u8], slot: usize, first: usize)
+    requires { ⌜ (length (now source) ≡ sourceLength) × (slot ≤ 32768) × (first < 65536) ⌝ }
+    ensures { λ _. ⌜ now (source .exit) ≡ written (now (source .entry)) slot first ⌝ }
 {
-    let at = START + 2 * i;
-    source[at] = (first % 256) as u8;
-    source[at + 1] = (first / 256) as u8;
+    let at = 2 * slot;
+    source[65534 + at] = (first % 256) as u8;
+    source[65535 + at] = (first / 256) as u8;
 }

@@ -10,11 +10,11 @@ use Rattle.interner.proofs.table.put.Tie as tie
 mul-at : tie.Need-mul-at
 mul-at c = search needs
 
-add-at : tie.Need-add-at
-add-at c = search needs
-
 cast-source : tie.Need-cast-source
 cast-source c = search needs
+
+add-source : tie.Need-add-source
+add-source c = search needs
 
 slice-write-source : tie.Need-slice-write-source
 slice-write-source c = search needs
@@ -22,8 +22,8 @@ slice-write-source c = search needs
 cast-source-2 : tie.Need-cast-source-2
 cast-source-2 c = search needs
 
-add-source : tie.Need-add-source
-add-source c = search needs
+add-source-2 : tie.Need-add-source-2
+add-source-2 c = search needs
 
 slice-write-source-2 : tie.Need-slice-write-source-2
 slice-write-source-2 c = simp length-set (omega arith)
@@ -40,11 +40,11 @@ put-spec =
     tie.close
     (tie.spec
     mul-at
-    add-at
     cast-source
+    add-source
     slice-write-source
     cast-source-2
-    add-source
+    add-source-2
     slice-write-source-2
     same-length
     returns)

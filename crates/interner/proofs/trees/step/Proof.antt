@@ -1,9 +1,9 @@
 -- `step` meets its contract, by case.
-use Rattle.interner.specs.Chain.{name-is}
+use Rattle.interner.specs.Order.{name-is}
 use Rattle.interner.specs.State.{state-skip}
 use borrow.Author.Needs.{needs}
-use Rattle.interner.proofs.chains.step.Statement.{statement}
-use Rattle.interner.proofs.chains.step.Tie as tie
+use Rattle.interner.proofs.trees.step.Statement.{statement}
+use Rattle.interner.proofs.trees.step.Tie as tie
 
 kind-at-requires : tie.Need-kind-at-requires
 kind-at-requires c κs = search needs
@@ -13,28 +13,17 @@ is-name-requires c κs = search needs
 
 add-requires : tie.Need-add-requires
 add-requires c κs =
-    let at-if1 = c .before .before .before in
+    let at-if1 = c .before .before in
     let at-is-name = at-if1 .before in
     let at-kind-at = at-is-name .before in
-    let at-pre = at-kind-at .before .before .before .before .before .before in (
-      (
-        at-pre .pre .0 .0,
-        at-pre .pre .0 .1,
-        at-pre .pre .0 .2,
-        name-is _ _ _ _ _ (at-kind-at .kind-at .ensures) (at-is-name .is-name .ensures)
-            (at-if1 .if1 .taken),
-      ),
-      at-pre .pre .1,
-    )
+    let at-start = at-kind-at .before .before .before .before .before in
+    ((at-start .pre .0, name-is _ _ _ _ _ (at-kind-at .kind-at .ensures) (at-is-name .is-name .ensures) (at-if1 .if1 .taken)), at-start .pre .1)
 
 same-length : tie.Need-same-length
 same-length c = search needs
 
 same-length-2 : tie.Need-same-length-2
 same-length-2 c = search needs
-
-same-length-3 : tie.Need-same-length-3
-same-length-3 c = search needs
 
 returns : tie.Need-returns
 returns c = search needs
@@ -43,9 +32,8 @@ returns-2 : tie.Need-returns-2
 returns-2 c =
     let at-is-name = c .before in
     let at-kind-at = at-is-name .before in
-    let at-pre = at-kind-at .before .before .before .before .before .before in
-    state-skip _ _ _ _ _ _ (name-is _ _ _ _ _ (at-kind-at .kind-at .ensures) (at-is-name .is-name .ensures) (c .if1 .left)) (at-pre .pre .0 .2)
-    (at-pre .pre .1)
+    let at-start = at-kind-at .before .before .before .before .before in
+    state-skip _ _ _ _ _ (at-start .pre .1) (name-is _ _ _ _ _ (at-kind-at .kind-at .ensures) (at-is-name .is-name .ensures) (c .if1 .left))
 
 pub step-spec : {M : Type 1} → statement M
 step-spec =
@@ -56,6 +44,5 @@ step-spec =
     add-requires
     same-length
     same-length-2
-    same-length-3
     returns
     returns-2)

@@ -2,13 +2,13 @@
 use mathlib.Core.Path.{_≡_, refl, sym, _∙_}
 use Prim.Native.Nat.{_-_, _<_}
 use lib.ListN.{length, drop}
-use Rattle.interner.specs.Hash.{buckets, hash, hashFrom, hash-next, hash-over}
+use Rattle.interner.specs.Hash.{hash, hashFrom, hash-next, hash-over}
 use borrow.Author.Needs.{needs}
-use Rattle.interner.proofs.chains.hash.Statement.{statement}
-use Rattle.interner.proofs.chains.hash.Tie as tie
+use Rattle.interner.proofs.trees.hash.Statement.{statement}
+use Rattle.interner.proofs.trees.hash.Tie as tie
 
 abbrev Inv-loop : tie.InvT-loop
-Inv-loop s h₀ i₀ h i = (h < buckets) × (hash s ≡ hashFrom h (drop i s))
+Inv-loop s h₀ i₀ h i = (h < 4294967296) × (hash s ≡ hashFrom h (drop i s))
 
 abbrev μ-loop : tie.MeasureT-loop
 μ-loop s h₀ i₀ h i = length s - i

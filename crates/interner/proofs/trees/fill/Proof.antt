@@ -5,14 +5,14 @@ use native.Mathlib.Omega.{arith}
 use lib.ListN.{length}
 use Rattle.interner.specs.State.{State}
 use borrow.Author.Needs.{needs}
-use Rattle.interner.proofs.chains.fill.Statement.{statement}
-use Rattle.interner.proofs.chains.fill.Tie as tie
+use Rattle.interner.proofs.trees.fill.Statement.{statement}
+use Rattle.interner.proofs.trees.fill.Tie as tie
 
 abbrev Inv-loop : tie.InvT-loop
-Inv-loop text tokens source₀ heads₀ links₀ n i₀ source heads links i = (i ≤ n) × (length source ≡ length source₀) × (length heads ≡ length heads₀) × (length links ≡ length links₀) × State text tokens source heads links i
+Inv-loop text tokens source₀ links₀ i₀ source links i = (i ≤ length tokens) × (length source ≡ length source₀) × (length links ≡ length links₀) × State text tokens source links i
 
 abbrev μ-loop : tie.MeasureT-loop
-μ-loop text tokens source₀ heads₀ links₀ n i₀ source heads links i = n - i
+μ-loop text tokens source₀ links₀ i₀ source links i = length tokens - i
 
 loop-holds : tie.Need-loop-holds Inv-loop μ-loop
 loop-holds c = search needs
@@ -28,12 +28,11 @@ loop-less c = search needs
 
 loop-again : tie.Need-loop-again Inv-loop μ-loop
 loop-again c =
-    let at-step = c .before .before .before .before .before .before in
-    let at-loop = at-step .before .before .before .before .before in (
+    let at-step = c .before .before .before .before in
+    let at-loop = at-step .before .before .before .before in (
       search needs,
       at-step .step .kept .1 .1 .0 ∙ at-loop .loop .inv .1,
       at-step .step .kept .1 .1 .1 .0 ∙ at-loop .loop .inv .2,
-      at-step .step .kept .1 .1 .1 .1 .0 ∙ at-loop .loop .inv .3,
       at-step .step .ensures,
     )
 
@@ -43,14 +42,11 @@ same-length c = search needs
 same-length-2 : tie.Need-same-length-2 Inv-loop μ-loop
 same-length-2 c = search needs
 
-same-length-3 : tie.Need-same-length-3 Inv-loop μ-loop
-same-length-3 c = search needs
-
 returns : tie.Need-returns Inv-loop μ-loop
 returns c =
     let at-loop = c .before in
-    let at-args = at-loop .before .before .before .before .before .before in
-    let z : at-loop .loop .i ≡ at-args .args .n = omega arith in rw z at (at-loop .loop .inv .4 .told)
+    let at-args = at-loop .before .before .before .before .before in
+    let z : at-loop .loop .i ≡ length (at-args .args .tokens .now) = omega arith in rw z at (at-loop .loop .inv .3 .told)
 
 pub fill-spec : {M : Type 1} → statement M
 fill-spec =
@@ -65,5 +61,4 @@ fill-spec =
     loop-again
     same-length
     same-length-2
-    same-length-3
     returns)
