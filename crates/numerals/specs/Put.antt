@@ -37,51 +37,80 @@ dropped-more ls lent n m e h =
     let j : n + (m - n) ≡ m = omega arith in
     ap (λ (l : ℕ). drop l (ls ++ drop n lent)) k ∙ (drop-append-add ls (drop n lent) (m - n) ∙ (drop-drop (m - n) n lent ∙ ap (λ (l : ℕ). drop l lent) j))
 
+pub put-none : (lent : List ℕ) → Put (limbs 0) lent (Words 0) lent
+put-none lent = rw limbs-zero (refl, omega arith, refl)
+
+-- A number whose limbs were put in front, and some digits more.
+module _ (v : ℕ) (lent : List ℕ) (r : Count) (room : List ℕ) (t : Put (limbs v) lent r room) where
+  module _ (n : ℕ) (e : r ≡ Words n) where
+    put : Put (limbs v) lent (Words n) room
+    put = rw e at t
+
+    pub put-length : length room ≡ length lent
+    put-length = ap length (put .2) ∙ (length-append (limbs v) (drop n lent) ∙ rw (← (put .0), length-drop) (omega (arith, put .1)))
+
+    pub put-fits : n ≤ length room
+    put-fits = omega (arith, put-length, put .1)
+
+    module _ (unit value : ℕ) (pos : 0 < unit) where
+      next-limbs : grown unit value (take n room) ≡ limbs (v * unit + value)
+      next-limbs = rw (put .2, take-at (limbs v) (drop n lent) n (sym (put .0))) (sym (limbs-times unit pos v value))
+
+      pub put-more : (s : Count) (out : List ℕ) → Pushed unit value room n s out → Put (limbs (v * unit + value)) lent s out
+      put-more (Words m) out p =
+          let q : Put (limbs (v * unit + value)) room (Words m) out = rw next-limbs at p in
+          let g : n ≤ m = omega (arith, q .0, put .0, limbs-grow unit pos v value) in
+          let dropped : drop m room ≡ drop m lent = rw (put .2) (dropped-more (limbs v) lent n m (sym (put .0)) g) in
+          (q .0, omega (arith, q .1, put-length), q .2 ∙ ap (λ (l : List ℕ). limbs (v * unit + value) ++ l) dropped)
+      put-more DontFit out p = omega (arith, p, ap length next-limbs, put-length)
+
+  pub put-full : r ≡ DontFit → length lent < length (limbs v)
+  put-full e = rw e at t
+
+-- Some digits from byte `i` up to byte `j`, pushed.
+pub record Takes (radix : ℕ) (source : List ℕ) (i : ℕ) (room : List ℕ) (n : ℕ) (r : Count) (out : List ℕ) (j : ℕ) : Type 0 where
+  pub value : ℕ
+  pub unit : ℕ
+  pub chunk : Chunk radix source i value unit j
+  pub pushed : Pushed unit value room n r out
+
 pub record Digits (radix : ℕ) (source : List ℕ) (prefix : ℕ) (lent room : List ℕ) (n i : ℕ) : Type 0 where
   pub value : ℕ
   pub left : digits radix value (drop i source) ≡ digits radix 0 (drop prefix source)
-  pub words : room ≡ limbs value ++ drop n lent
-  pub count : n ≡ length (limbs value)
-  pub fits : n ≤ length lent
+  pub words : Put (limbs value) lent (Words n) room
 
 module _ (radix : ℕ) (source : List ℕ) (prefix : ℕ) (lent : List ℕ) where
   pub digits-first : Digits radix source prefix lent lent 0 prefix
-  digits-first = record { value = 0; left = refl; words = rw limbs-zero; count = rw limbs-zero; fits = omega arith }
+  digits-first = record { value = 0; left = refl; words = put-none lent }
 
   module _ (room : List ℕ) (n i : ℕ) (t : Digits radix source prefix lent room n i) where
     pub room-length : length room ≡ length lent
-    room-length = ap length (t .words) ∙ (length-append (limbs (t .value)) (drop n lent) ∙ (rw (← (t .count), length-drop) (omega (arith, t .fits))))
+    room-length = put-length (t .value) lent (Words n) room (t .words) n refl
 
     pub digits-fit : n ≤ length room
-    digits-fit = omega (arith, room-length, t .fits)
+    digits-fit = put-fits (t .value) lent (Words n) room (t .words) n refl
 
     pub digits-last : length source ≤ i → Put (limbs (digits radix 0 (drop prefix source))) lent (Words n) room
     unfolding digits
     digits-last h =
         let e : t .value ≡ digits radix 0 (drop prefix source) = rw (drop-of-length-le source h) at (t .left) in
-        rw (← e) (t .count, t .fits, t .words)
+        rw (← e) (t .words)
 
-    -- A chunk of digits more.
-    module _ (pos : 0 < radix) (value unit j : ℕ) (k : Chunk radix source i value unit j) (r : Count) (out : List ℕ) (p : Pushed unit value room n r out) where
+    -- Some digits more.
+    module _ (pos : 0 < radix) (r : Count) (out : List ℕ) (j : ℕ) (k : Takes radix source i room n r out j) where
       next : ℕ
-      next = t .value * unit + value
+      next = t .value * k .unit + k .value
 
       next-left : digits radix next (drop j source) ≡ digits radix 0 (drop prefix source)
       unfolding next
-      next-left = sym (k .same (t .value)) ∙ t .left
+      next-left = sym (k .chunk .same (t .value)) ∙ t .left
 
-      next-limbs : grown unit value (take n room) ≡ limbs next
+      next-words : Put (limbs next) lent r out
       unfolding next
-      next-limbs = rw (t .words, take-at (limbs (t .value)) (drop n lent) n (sym (t .count))) (sym (limbs-times unit (k .some) (t .value) value))
+      next-words = put-more (t .value) lent (Words n) room (t .words) n refl (k .unit) (k .value) (k .chunk .some) r out (k .pushed)
 
       pub digits-full : r ≡ DontFit → Put (limbs (digits radix 0 (drop prefix source))) lent DontFit out
-      digits-full f =
-          let q : length room < length (grown unit value (take n room)) = rw f at p in
-          rw (← next-left) (omega (arith, q, ap length next-limbs, digits-grow radix pos next (drop j source), room-length))
+      digits-full f = rw (← next-left) (omega (arith, put-full next lent r out next-words f, digits-grow radix pos next (drop j source)))
 
       pub digits-more : (m : ℕ) → r ≡ Words m → Digits radix source prefix lent out m j
-      digits-more m f =
-          let q : Put (limbs next) room (Words m) out = rw (f, next-limbs) at p in
-          let g : n ≤ m = unfold next in (omega (arith, q .0, t .count, limbs-grow unit (k .some) (t .value) value)) in
-          let dropped : drop m room ≡ drop m lent = rw (t .words) (dropped-more (limbs (t .value)) lent n m (sym (t .count)) g) in
-          record { value = next; left = next-left; words = q .2 ∙ ap (λ (l : List ℕ). limbs next ++ l) dropped; count = q .0; fits = omega (arith, q .1, room-length) }
+      digits-more m f = record { value = next; left = next-left; words = put next lent r out next-words m f }

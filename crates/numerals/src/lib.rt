@@ -8,7 +8,10 @@ ghost use Rattle.definition.specs.Prog.{value, memory};
 ghost use Rattle.reading.specs.Does.{Does};
 ghost use Rattle.numerals.specs.Limbs.{multiplied, carried};
 ghost use Rattle.numerals.specs.Numbers.{radixOf, Pushed};
+ghost use Rattle.numerals.specs.Times.{Parted};
+ghost use Rattle.numerals.specs.Four.{unit, number, Positive};
 ghost use Rattle.numerals.specs.Chunks.{Radix, Chunk};
+ghost use Rattle.numerals.specs.Put.{Takes};
 ghost use Rattle.values.specs.Kept.{Put, Kept};
 
 mod hexadecimal;
@@ -35,6 +38,23 @@ fn wide(x: u32) -> u64
     x as u64
 }
 
+// A limb of a product, and what is carried on to the next.
+pub(crate) struct Product {
+    pub limb: u32,
+    pub carry: u32,
+}
+
+// A limb times `radix`, and a carry more.
+fn limb_times(limb: u32, radix: u32, carry: u32) -> Product
+    ensures { λ r. ⌜ Parted (limb * radix + carry) (r .carry) (r .limb) ⌝ }
+{
+    let sum = wide(limb) * wide(radix) + wide(carry);
+    Product {
+        limb: (sum % LIMB_BASE) as u32,
+        carry: (sum / LIMB_BASE) as u32,
+    }
+}
+
 // Limbs, least first, times `radix` and `digit` more: what is carried past the last.
 fn times(limbs: &mut [u32], radix: u32, digit: u32) -> u32
     ensures { λ r. ⌜ (r ≡ carried radix digit (now (limbs .entry))) × (now (limbs .exit) ≡ multiplied radix digit (now (limbs .entry))) ⌝ }
@@ -42,9 +62,9 @@ fn times(limbs: &mut [u32], radix: u32, digit: u32) -> u32
     let mut carry = digit;
     let mut i = 0;
     while i < limbs.len() {
-        let sum = wide(limbs[i]) * wide(radix) + wide(carry);
-        limbs[i] = (sum % LIMB_BASE) as u32;
-        carry = (sum / LIMB_BASE) as u32;
+        let p = limb_times(limbs[i], radix, carry);
+        limbs[i] = p.limb;
+        carry = p.carry;
         i += 1;
     }
     carry
@@ -66,6 +86,66 @@ fn push(room: &mut [u32], n: usize, radix: u32, digit: u32) -> Count
     Count::Words(n + 1)
 }
 
+// Four chunks of digits, the first one first: their units, or their values, or what each carries on.
+pub(crate) struct Four {
+    pub a: u32,
+    pub b: u32,
+    pub c: u32,
+    pub d: u32,
+}
+
+// Limbs times four units, with a value more after each, in one pass: the four carries don't wait for each other.
+fn times_four(limbs: &mut [u32], units: Four, values: Four) -> Four
+    ensures { λ r. ⌜ (number units r ≡ carried (unit units) (number units values) (now (limbs .entry))) × (now (limbs .exit) ≡ multiplied (unit units) (number units values) (now (limbs .entry))) ⌝ }
+{
+    let mut carry = values;
+    let mut i = 0;
+    while i < limbs.len() {
+        let a = limb_times(limbs[i], units.a, carry.a);
+        let b = limb_times(a.limb, units.b, carry.b);
+        let c = limb_times(b.limb, units.c, carry.c);
+        let d = limb_times(c.limb, units.d, carry.d);
+        limbs[i] = d.limb;
+        carry = Four {
+            a: a.carry,
+            b: b.carry,
+            c: c.carry,
+            d: d.carry,
+        };
+        i += 1;
+    }
+    carry
+}
+
+// The limbs of the number that four chunks make, in front of `room`.
+fn put_four(room: &mut [u32], units: Four, values: Four) -> Count
+    requires { ⌜ Positive units ⌝ }
+    ensures { λ r. ⌜ Put (limbs (number units values)) (now (room .entry)) r (now (room .exit)) ⌝ }
+{
+    let Count::Words(a) = push(room, 0, units.a, values.a) else {
+        return Count::DontFit;
+    };
+    let Count::Words(b) = push(room, a, units.b, values.b) else {
+        return Count::DontFit;
+    };
+    let Count::Words(c) = push(room, b, units.c, values.c) else {
+        return Count::DontFit;
+    };
+    push(room, c, units.d, values.d)
+}
+
+// Four chunks of digits more. What is carried past the last limb is a number of its own.
+fn push_four(room: &mut [u32], n: usize, units: Four, values: Four) -> Count
+    requires { ⌜ (n ≤ length (now room)) × Positive units ⌝ }
+    ensures { λ r. ⌜ Pushed (unit units) (number units values) (now (room .entry)) n r (now (room .exit)) ⌝ }
+{
+    let carry = times_four(&mut room[..n], units, values);
+    match put_four(&mut room[n..], units, carry) {
+        Count::Words(m) => Count::Words(n + m),
+        Count::DontFit => Count::DontFit,
+    }
+}
+
 // Some digits: what they make, what a number before them is multiplied by, and where the next ones stand.
 pub(crate) struct Digits {
     pub value: u32,
@@ -73,12 +153,12 @@ pub(crate) struct Digits {
     pub next: usize,
 }
 
-// A unit below which a digit more fits.
-const SMALL_UNIT: u32 = 17895697;
+// A unit below which a digit more fits, also one above the radix.
+const SMALL_UNIT: u32 = 143165577;
 
 // The digits of `source` from byte `i` on, as many as fit. All that is no digit is passed over.
 fn chunk_at(source: &[u8], i: usize, radix: u32) -> Digits
-    requires { ⌜ (i < length (now source)) × Radix radix ⌝ }
+    requires { ⌜ Radix radix ⌝ }
     ensures { λ r. ⌜ Chunk radix (now (source .entry)) i (r .value) (r .unit) (r .next) ⌝ }
 {
     let mut value = 0;
@@ -109,6 +189,59 @@ fn chunk_at(source: &[u8], i: usize, radix: u32) -> Digits
     }
 }
 
+// How many limbs a number has with some digits more, and where the next ones stand.
+pub(crate) struct Taken {
+    pub count: Count,
+    pub next: usize,
+}
+
+// Four chunks of the digits of `source` from byte `i` on, pushed. Those past the last digit are of none.
+fn take_four(source: &[u8], i: usize, radix: u32, room: &mut [u32], n: usize) -> Taken
+    requires { ⌜ (n ≤ length (now room)) × Radix radix ⌝ }
+    ensures { λ r. ⌜ Takes radix (now (source .entry)) i (now (room .entry)) n (r .count) (now (room .exit)) (r .next) ⌝ }
+{
+    let a = chunk_at(source, i, radix);
+    let b = chunk_at(source, a.next, radix);
+    let c = chunk_at(source, b.next, radix);
+    let d = chunk_at(source, c.next, radix);
+    let units = Four {
+        a: a.unit,
+        b: b.unit,
+        c: c.unit,
+        d: d.unit,
+    };
+    let values = Four {
+        a: a.value,
+        b: b.value,
+        c: c.value,
+        d: d.value,
+    };
+    let count = push_four(room, n, units, values);
+    Taken {
+        count,
+        next: d.next,
+    }
+}
+
+// As many bytes as four chunks of decimal digits are.
+const FOUR_CHUNKS: usize = 36;
+
+// A chunk, or four where there are many digits.
+fn take_some(source: &[u8], i: usize, radix: u32, room: &mut [u32], n: usize) -> Taken
+    requires { ⌜ (i < length (now source)) × (n ≤ length (now room)) × Radix radix ⌝ }
+    ensures { λ r. ⌜ Takes radix (now (source .entry)) i (now (room .entry)) n (r .count) (now (room .exit)) (r .next) ⌝ }
+{
+    if FOUR_CHUNKS <= source.len() - i {
+        return take_four(source, i, radix, room, n);
+    }
+    let p = chunk_at(source, i, radix);
+    let count = push(room, n, p.unit, p.value);
+    Taken {
+        count,
+        next: p.next,
+    }
+}
+
 // The limbs of the number that the digits of `source` from `prefix` on make, in front of `room`, chunk by chunk.
 fn put_chunks(source: &[u8], prefix: usize, radix: u32, room: &mut [u32]) -> Count
     requires { ⌜ Radix radix ⌝ }
@@ -117,9 +250,10 @@ fn put_chunks(source: &[u8], prefix: usize, radix: u32, room: &mut [u32]) -> Cou
     let mut n = 0;
     let mut i = prefix;
     while i < source.len() {
-        let p = chunk_at(source, i, radix);
-        i = p.next;
-        match push(room, n, p.unit, p.value) {
+        let t = take_some(source, i, radix, room, n);
+        i = t.next;
+        let count = t.count;
+        match count {
             Count::Words(m) => n = m,
             Count::DontFit => return Count::DontFit,
         }

@@ -15,10 +15,10 @@ abbrev μ-loop : tie.MeasureT-loop
 μ-loop source i radix value₀ unit₀ j₀ value unit j = length source - j
 
 loop-holds : tie.Need-loop-holds Inv-loop μ-loop
-loop-holds c = chunked-first _ _ _
+loop-holds c = chunked-first _ (c .before .pre) _ _
 
 returns : tie.Need-returns Inv-loop μ-loop
-returns c = chunked-full _ _ _ _ _ _ (c .before .before .loop .inv) (omega arith)
+returns c = chunked-full _ (c .before .before .before .before .pre) _ _ _ _ _ (c .before .before .loop .inv) (omega arith)
 
 shared-slice-read-c : tie.Need-shared-slice-read-c Inv-loop μ-loop
 shared-slice-read-c c = search needs
@@ -44,7 +44,7 @@ mul-value c =
     let at-pre = at-loop .before .before in
     omega (
       arith,
-      chunk-fits _ _ _ _ _ _ (at-loop .loop .inv) (at-if1 .if1 .left) (at-pre .pre .1) _
+      chunk-fits _ (at-pre .pre) _ _ _ _ _ (at-loop .loop .inv) (at-if1 .if1 .left) _
           (rw (at-digit .digit .given .1) at (at-nibble .nibble .ensures .1)),
     )
 
@@ -57,7 +57,7 @@ add-value c =
     let at-pre = at-loop .before .before in
     omega (
       arith,
-      chunk-fits _ _ _ _ _ _ (at-loop .loop .inv) (at-if1 .if1 .left) (at-pre .pre .1) _
+      chunk-fits _ (at-pre .pre) _ _ _ _ _ (at-loop .loop .inv) (at-if1 .if1 .left) _
           (rw (at-digit .digit .given .1) at (at-nibble .nibble .ensures .1)),
     )
 
@@ -66,7 +66,7 @@ mul-unit c =
     let at-if1 = c .before .before .before .before .before in
     let at-loop = at-if1 .before .before in
     let at-pre = at-loop .before .before in
-    omega (arith, unit-fits _ _ _ _ _ _ (at-loop .loop .inv) (at-if1 .if1 .left) (at-pre .pre .1))
+    omega (arith, unit-fits _ (at-pre .pre) _ _ _ _ _ (at-loop .loop .inv) (at-if1 .if1 .left))
 
 loop-less : tie.Need-loop-less Inv-loop μ-loop
 loop-less c = search needs
@@ -78,9 +78,8 @@ loop-again c =
     let at-loop-test = at-nibble .before .before .before in
     let at-loop = at-loop-test .before in
     let at-pre = at-loop .before .before in
-    chunked-some _ _ _ _ _ _ (at-loop .loop .inv) _ refl (at-loop-test .loop-test .taken) _
+    chunked-some _ (at-pre .pre) _ _ _ _ _ (at-loop .loop .inv) _ refl (at-loop-test .loop-test .taken) _
     (rw (at-digit .digit .given .1) at (at-nibble .nibble .ensures .0)) (rw (at-digit .digit .given .1) at (at-nibble .nibble .ensures .1))
-    (at-pre .pre .1)
 
 enum-told : tie.Need-enum-told Inv-loop μ-loop
 enum-told c = search needs
@@ -93,11 +92,12 @@ loop-again-2 c =
     let at-nibble = c .before .before in
     let at-loop-test = at-nibble .before .before .before in
     let at-loop = at-loop-test .before in
-    chunked-none _ _ _ _ _ _ (at-loop .loop .inv) _ refl (at-loop-test .loop-test .taken)
+    let at-pre = at-loop .before .before in
+    chunked-none _ (at-pre .pre) _ _ _ _ _ (at-loop .loop .inv) _ refl (at-loop-test .loop-test .taken)
     (rw (c .enum-told .given .1) at (at-nibble .nibble .ensures .0))
 
 returns-2 : tie.Need-returns-2 Inv-loop μ-loop
-returns-2 c = chunked-last _ _ _ _ _ _ (c .before .loop .inv) (c .before .before .before .pre .0) (c .loop-test .left)
+returns-2 c = chunked-last _ (c .before .before .before .pre) _ _ _ _ _ (c .before .loop .inv) (c .loop-test .left)
 
 pub chunk-at-spec : {M : Type 1} → statement M
 chunk-at-spec =

@@ -22,7 +22,7 @@ returns : tie.Need-returns
 returns c =
     let at-times = c .before .before .before in
     let at-pre = at-times .before .before .before in
-    pushed-same _ _ _ _ (at-pre .pre) _ _ (search needs) (at-times .times .ensures) (c .if1 .taken)
+    pushed-same _ _ _ _ (at-pre .pre) _ _ (at-times .times .ensures) (c .if1 .taken)
 
 same-length-2 : tie.Need-same-length-2
 same-length-2 c = search needs
@@ -32,7 +32,7 @@ returns-2 c =
     let at-if1 = c .before in
     let at-times = at-if1 .before .before .before in
     let at-pre = at-times .before .before .before in
-    pushed-full _ _ _ _ (at-pre .pre) _ _ (search needs) (at-times .times .ensures) (at-if1 .if1 .left) (c .if2 .taken)
+    pushed-full _ _ _ _ (at-pre .pre) _ _ (at-times .times .ensures) (at-if1 .if1 .left) (search needs) (c .if2 .taken)
 
 mul-room : tie.Need-mul-room
 mul-room c = search needs
@@ -51,7 +51,7 @@ returns-3 c =
     let at-if1 = c .before in
     let at-times = at-if1 .before .before .before in
     let at-pre = at-times .before .before .before in
-    pushed-more _ _ _ _ (at-pre .pre) _ _ (search needs) (at-times .times .ensures) (at-if1 .if1 .left) (c .if2 .left)
+    pushed-more _ _ _ _ (at-pre .pre) _ _ (at-times .times .ensures) (at-if1 .if1 .left) (search needs) (c .if2 .left)
 
 pub push-spec : {M : Type 1} → statement M
 push-spec =

@@ -17,29 +17,29 @@ abbrev μ-loop : tie.MeasureT-loop
 loop-holds : tie.Need-loop-holds Inv-loop μ-loop
 loop-holds c = digits-first _ _ _ _
 
-chunk-at-requires : tie.Need-chunk-at-requires Inv-loop μ-loop
-chunk-at-requires c κs = search needs
+take-some-requires : tie.Need-take-some-requires Inv-loop μ-loop
+take-some-requires c κs =
+    let at-loop-test = c .before in
+    let at-loop = at-loop-test .before in
+    let at-pre = at-loop .before .before .before in
+    (at-loop-test .loop-test .taken, digits-fit _ _ _ _ _ _ _ (at-loop .loop .inv), at-pre .pre)
 
-push-requires : tie.Need-push-requires Inv-loop μ-loop
-push-requires c κs = digits-fit _ _ _ _ _ _ _ (c .before .before .before .loop .inv)
-
-enum-known-m : tie.Need-enum-known-m Inv-loop μ-loop
-enum-known-m c = search needs
+enum-known-count : tie.Need-enum-known-count Inv-loop μ-loop
+enum-known-count c = search needs
 
 loop-less : tie.Need-loop-less Inv-loop μ-loop
 loop-less c =
-    let at-chunk-at = c .before .before .before .before .before .before .before in
-    omega (arith, at-chunk-at .chunk-at .ensures .on)
+    let at-take-some = c .before .before .before .before .before in
+    let at-loop-test = at-take-some .before .before in
+    omega (arith, at-take-some .take-some .ensures .chunk .past (at-loop-test .loop-test .taken))
 
 loop-again : tie.Need-loop-again Inv-loop μ-loop
 loop-again c =
-    let at-m = c .before in
-    let at-push = at-m .before .before .before .before in
-    let at-chunk-at = at-push .before .before in
-    let at-loop = at-chunk-at .before .before in
+    let at-count = c .before in
+    let at-take-some = at-count .before .before .before .before in
+    let at-loop = at-take-some .before .before .before in
     let at-pre = at-loop .before .before .before in
-    digits-more _ _ _ _ _ _ _ (at-loop .loop .inv) (omega (arith, at-pre .pre .0)) _ _ _ (at-chunk-at .chunk-at .ensures) _ _
-    (at-push .push .ensures) _ (at-m .m .given .1)
+    digits-more _ _ _ _ _ _ _ (at-loop .loop .inv) (omega (arith, at-pre .pre .0)) _ _ _ (at-take-some .take-some .ensures) _ (at-count .count .given .1)
 
 enum-told : tie.Need-enum-told Inv-loop μ-loop
 enum-told c = search needs
@@ -47,17 +47,15 @@ enum-told c = search needs
 same-length : tie.Need-same-length Inv-loop μ-loop
 same-length c =
     let at-room = c .before .before .before in
-    let at-loop = at-room .before .before .before .before .before in
+    let at-loop = at-room .before .before .before .before in
     at-room .room .given ∙ room-length _ _ _ _ _ _ _ (at-loop .loop .inv)
 
 returns : tie.Need-returns Inv-loop μ-loop
 returns c =
-    let at-push = c .before .before .before .before in
-    let at-chunk-at = at-push .before .before in
-    let at-loop = at-chunk-at .before .before in
+    let at-take-some = c .before .before .before .before in
+    let at-loop = at-take-some .before .before .before in
     let at-pre = at-loop .before .before .before in
-    digits-full _ _ _ _ _ _ _ (at-loop .loop .inv) (omega (arith, at-pre .pre .0)) _ _ _ (at-chunk-at .chunk-at .ensures) _ _
-    (at-push .push .ensures) (c .enum-told .given .1)
+    digits-full _ _ _ _ _ _ _ (at-loop .loop .inv) (omega (arith, at-pre .pre .0)) _ _ _ (at-take-some .take-some .ensures) (c .enum-told .given .1)
 
 same-length-2 : tie.Need-same-length-2 Inv-loop μ-loop
 same-length-2 c = room-length _ _ _ _ _ _ _ (c .before .loop .inv)
@@ -72,9 +70,8 @@ put-chunks-spec =
     Inv-loop
     μ-loop
     loop-holds
-    chunk-at-requires
-    push-requires
-    enum-known-m
+    take-some-requires
+    enum-known-count
     loop-less
     loop-again
     enum-told
