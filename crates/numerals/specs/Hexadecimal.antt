@@ -1,4 +1,4 @@
--- Hexadecimal numbers: how many limbs their digits make, and the limbs from the last digits to the first.
+-- Hexadecimal numbers: where their digits begin to count, and the limbs from the last digits to the first.
 use mathlib.Core.Path.{_≡_, refl, sym, _∙_, ap}
 use mathlib.Core.Option.{Option, none, some}
 use mathlib.Core.List.{List, [], _∷_, _++_, append-nil}
@@ -7,107 +7,12 @@ use native.Mathlib.Omega.{arith}
 use native.Mathlib.Nat.{mul-le-mul-right}
 use native.Mathlib.Numerals.{add-one}
 use lib.ListN.{length, getD, take, drop, set, length-append, length-set, drop-of-length-le, take-append-drop}
-use lib.Seq.{length-take-le, take-all, take-suc, take-suc-set, drop-set-lt, drop-cons, drop-append-le, drop-drop, append-snoc}
+use lib.Seq.{length-take-le, getD-take, take-all, take-suc, take-suc-set, drop-set-lt, drop-cons, drop-append-le, drop-drop, append-snoc}
 use Rattle.literals.specs.Numbers.{limbBase, limbs, nibble, digits}
 use Rattle.values.specs.declared.Count.the-variants.{Words}
-use Rattle.numerals.specs.Limbs.{limbs-zero, limbs-more, limbs-one}
+use Rattle.numerals.specs.Limbs.{limbs-zero, limbs-more}
 use Rattle.values.specs.Kept.{Put}
 use Rattle.numerals.specs.Chunks.{digits-some, digits-pass}
-
--- ---- how many digits count, and how many limbs they make
-
--- What the digit counts behind which `k` digits stand.
-unfoldable pub top : ℕ → ℕ
-top zero = 1
-top (suc k) = 16 * top k
-
--- A number of `n` digits, of which the first is not 0.
-abbrev pub Sized : ℕ → ℕ → Type 0
-Sized v zero = v ≡ 0
-Sized v (suc k) = (top k ≤ v) × (v < 16 * top k)
-
--- What a digit more makes of the count.
-abbrev pub Counts : ℕ → ℕ → ℕ → Type 0
-Counts n d m = (m ≤ n + 1) × ((v : ℕ) → Sized v n → Sized (v * 16 + d) m)
-
-module _ (d : ℕ) (h : d < 16) where
-  sized-suc : (n v : ℕ) → 0 < n + d → Sized v n → Sized (v * 16 + d) (suc n)
-  unfolding top
-  sized-suc zero v p s = (omega arith, omega arith)
-  sized-suc (suc k) v p s = (omega arith, omega arith)
-
-  pub counts-more : (n : ℕ) → 0 < n + d → Counts n d (n + 1)
-  counts-more n p = (omega arith, λ v s. rw add-one (sized-suc n v p s))
-
-pub counts-none : (n d : ℕ) → n ≡ 0 → d ≡ 0 → Counts n d 0
-counts-none zero d e f = (omega arith, λ v s. omega arith)
-counts-none (suc n) d e f = absurd (omega arith)
-
-limbs-sized : (k v : ℕ) → top k ≤ v → v < 16 * top k → length (limbs v) ≡ k / 8 + 1
-unfolding top
-limbs-sized zero v h g = omega (arith, ap length (limbs-one v (omega arith) (omega arith)))
-limbs-sized (suc zero) v h g = omega (arith, ap length (limbs-one v (omega arith) (omega arith)))
-limbs-sized (suc (suc zero)) v h g = omega (arith, ap length (limbs-one v (omega arith) (omega arith)))
-limbs-sized (suc (suc (suc zero))) v h g = omega (arith, ap length (limbs-one v (omega arith) (omega arith)))
-limbs-sized (suc (suc (suc (suc zero)))) v h g = omega (arith, ap length (limbs-one v (omega arith) (omega arith)))
-limbs-sized (suc (suc (suc (suc (suc zero))))) v h g = omega (arith, ap length (limbs-one v (omega arith) (omega arith)))
-limbs-sized (suc (suc (suc (suc (suc (suc zero)))))) v h g = omega (arith, ap length (limbs-one v (omega arith) (omega arith)))
-limbs-sized (suc (suc (suc (suc (suc (suc (suc zero))))))) v h g = omega (arith, ap length (limbs-one v (omega arith) (omega arith)))
-limbs-sized (suc (suc (suc (suc (suc (suc (suc (suc k)))))))) v h g =
-    omega (arith, ap length (limbs-more v (omega arith)), limbs-sized k (v / limbBase) (omega arith) (omega arith))
-
-pub sized-limbs : (n v : ℕ) → Sized v n → length (limbs v) ≡ (n + 7) / 8
-sized-limbs zero v s = ap (λ (m : ℕ). length (limbs m)) s ∙ rw limbs-zero
-sized-limbs (suc k) v s = omega (arith, limbs-sized k v (s .0) (s .1))
-
-pub sized-full : (n v : ℕ) (room : List ℕ) → Sized v n → length room < (n + 7) / 8 → length room < length (limbs v)
-sized-full n v room s h = omega (arith, sized-limbs n v s)
-
--- The loop that counts: the number so far, and the digits that are left.
-pub record Counted (source : List ℕ) (prefix i n : ℕ) : Type 0 where
-  pub value : ℕ
-  pub left : digits 16 value (drop i source) ≡ digits 16 0 (drop prefix source)
-  pub sized : Sized value n
-  pub from : prefix ≤ i
-  pub few : n ≤ i - prefix
-  pub within : n ≤ length source
-
-module _ (source : List ℕ) (prefix : ℕ) where
-  pub counted-first : Counted source prefix prefix 0
-  counted-first = record { value = 0; left = refl; sized = refl; from = omega arith; few = omega arith; within = omega arith }
-
-  module _ (i n : ℕ) (t : Counted source prefix i n) where
-    pub counted-last : length source ≤ i → (n ≤ length source) × Sized (digits 16 0 (drop prefix source)) n
-    unfolding digits
-    counted-last h =
-        let e : t .value ≡ digits 16 0 (drop prefix source) = rw (drop-of-length-le source h) at (t .left) in
-        (t .within, rw e at (t .sized))
-
-    module _ (c : ℕ) (ec : c ≡ getD source i 0) (h : i < length source) where
-      at-next : drop i source ≡ c ∷ drop (i + 1) source
-      at-next = rw (ec, add-one) (drop-cons source i 0 h)
-
-      pub counted-none : none ≡ nibble c → Counted source prefix (i + 1) n
-      counted-none e =
-          record {
-            value = t .value;
-            left = sym (digits-pass 16 (t .value) c (drop (i + 1) source) (sym e)) ∙ (rw at-next at (t .left));
-            sized = t .sized;
-            from = omega (arith, t .from);
-            few = omega (arith, t .from, t .few);
-            within = t .within;
-          }
-
-      pub counted-some : (d m : ℕ) → some d ≡ nibble c → Counts n d m → Counted source prefix (i + 1) m
-      counted-some d m e k =
-          record {
-            value = t .value * 16 + d;
-            left = sym (digits-some 16 (t .value) c (drop (i + 1) source) d (sym e)) ∙ (rw at-next at (t .left));
-            sized = k .1 (t .value) (t .sized);
-            from = omega (arith, t .from);
-            few = omega (arith, t .from, t .few, k .0);
-            within = omega (arith, t .from, t .few, k .0);
-          }
 
 -- ---- the number before a byte
 
@@ -145,12 +50,62 @@ module _ (source : List ℕ) (prefix : ℕ) where
     unfolding digits
     before-none e = rw (split, digits-append 16 0 (drop prefix (take i source)) (getD source i 0 ∷ []), digits-pass 16 (before source prefix i) (getD source i 0) [] (sym e))
 
+-- ---- where the digits that count begin
+
+-- A number is not less with more digits.
+digits-over : (n : ℕ) (s : List ℕ) → n ≤ digits 16 n s
+unfolding digits
+digits-over n [] = omega arith
+digits-over n (b ∷ s) = go (nibble b) (λ m. digits-over m s)
+  where
+    go : (d : Option ℕ) → ((m : ℕ) → m ≤ digits 16 m s) → n ≤ elim d [ some d ↦ digits 16 (n * 16 + d) s | none ↦ digits 16 n s ]
+    go (some d) ih = omega (arith, ih (n * 16 + d))
+    go none ih = ih n
+
+-- The digits from byte `i` on make the number, and as many of them as there are make one that isn't 0.
+pub record Leading (source : List ℕ) (prefix i : ℕ) : Type 0 where
+  pub same : digits 16 0 (drop i source) ≡ digits 16 0 (drop prefix source)
+  pub some : (end : ℕ) → i < end → end ≤ length source → 0 < before source i end
+
+module _ (source : List ℕ) (prefix i : ℕ) (e : digits 16 0 (drop i source) ≡ digits 16 0 (drop prefix source)) where
+  pub leading-none : length source ≤ i → Leading source prefix i
+  leading-none h = record { same = e; some = λ end g k. absurd (omega arith) }
+
+  module _ (c : ℕ) (ec : c ≡ getD source i 0) (h : i < length source) where
+    at-next : drop i source ≡ c ∷ drop (i + 1) source
+    at-next = rw (ec, add-one) (drop-cons source i 0 h)
+
+    pub leading-pass : none ≡ nibble c → digits 16 0 (drop (i + 1) source) ≡ digits 16 0 (drop prefix source)
+    leading-pass f = sym (digits-pass 16 0 c (drop (i + 1) source) (sym f)) ∙ (rw at-next at e)
+
+    module _ (d : ℕ) (f : some d ≡ nibble c) where
+      pub leading-zero : d ≡ 0 → digits 16 0 (drop (i + 1) source) ≡ digits 16 0 (drop prefix source)
+      leading-zero z =
+          let q : 0 * 16 + d ≡ 0 = omega arith in
+          sym (digits-some 16 0 c (drop (i + 1) source) d (sym f) ∙ rw q) ∙ (rw at-next at e)
+
+      pub leading-found : (d ≡ 0 → ⊥) → Leading source prefix i
+      leading-found z =
+          record {
+            same = e;
+            some = λ end g k.
+                let l : i < length (take end source) = omega (arith, length-take-le end source k) in
+                let q : drop i (take end source) ≡ c ∷ drop (suc i) (take end source) = drop-cons (take end source) i 0 l ∙ rw (getD-take end source i 0 g, ← ec) in
+                rw (q, digits-some 16 0 c (drop (suc i) (take end source)) d (sym f)) (omega (arith, z, digits-over (0 * 16 + d) (drop (suc i) (take end source))));
+          }
+
 -- ---- a limb, from the digits before a byte
+
+-- What the digit counts behind which `k` digits stand.
+unfoldable pub top : ℕ → ℕ
+top zero = 1
+top (suc k) = 16 * top k
 
 pub record LimbBefore (source : List ℕ) (prefix end value start : ℕ) : Type 0 where
   pub is : before source prefix end ≡ before source prefix start * limbBase + value
   pub fits : value < limbBase
   pub within : start ≤ end
+  pub past : prefix < end → start < end
 
 -- The loop that makes it: `unit` is what the next digit counts.
 pub record Digits (source : List ℕ) (prefix end value unit i : ℕ) : Type 0 where
@@ -160,6 +115,7 @@ pub record Digits (source : List ℕ) (prefix end value unit i : ℕ) : Type 0 w
   pub many : ℕ
   pub few : many ≤ 8
   pub counts : unit ≡ top many
+  pub first : (i ≡ end → unit ≡ 1)
 
 top-below : (j : ℕ) → j ≤ 8 → top j ≤ limbBase
 unfolding top
@@ -177,19 +133,21 @@ top-below (suc (suc (suc (suc (suc (suc (suc (suc (suc j))))))))) h = absurd (om
 module _ (source : List ℕ) (prefix end : ℕ) (g : end ≤ length source) where
   pub digits-first : Digits source prefix end 0 1 end
   unfolding top
-  digits-first = record { is = omega arith; fits = omega arith; within = omega arith; many = 0; few = omega arith; counts = refl }
+  digits-first = record { is = omega arith; fits = omega arith; within = omega arith; many = 0; few = omega arith; counts = refl; first = λ e. refl }
 
   module _ (value unit i : ℕ) (t : Digits source prefix end value unit i) where
     pub unit-fits : unit ≤ limbBase
     unit-fits = omega (arith, t .counts, top-below (t .many) (t .few))
 
     pub limb-full : unit ≡ limbBase → LimbBefore source prefix end value i
-    limb-full e = record { is = t .is ∙ rw e; fits = omega (arith, t .fits); within = t .within }
+    limb-full e =
+        let ne : (i ≡ end → ⊥) = λ f. omega (arith, t .first f) in
+        record { is = t .is ∙ rw e; fits = omega (arith, t .fits); within = t .within; past = λ h. omega (arith, t .within) }
 
     pub limb-last : i ≤ prefix → LimbBefore source prefix end value i
     limb-last h =
         let z : before source prefix i ≡ 0 = before-over source prefix i h (omega (arith, t .within)) in
-        record { is = t .is ∙ rw z (omega arith); fits = omega (arith, t .fits, unit-fits); within = t .within }
+        record { is = t .is ∙ rw z (omega arith); fits = omega (arith, t .fits, unit-fits); within = t .within; past = λ g. omega arith }
 
     module _ (more : unit ≡ limbBase → ⊥) (h : prefix < i) (c : ℕ) (ec : c ≡ getD source (i - 1) 0) where
       fewer : t .many < 8
@@ -207,7 +165,7 @@ module _ (source : List ℕ) (prefix end : ℕ) (g : end ≤ length source) wher
       pub digits-none : none ≡ nibble c → Digits source prefix end value unit (i - 1)
       digits-none e =
           let b : before source prefix (i - 1 + 1) ≡ before source prefix (i - 1) = before-none source prefix (i - 1) (omega arith) inside (rw ec at e) in
-          record { is = t .is ∙ rw (← b, back); fits = t .fits; within = omega (arith, t .within); many = t .many; few = t .few; counts = t .counts }
+          record { is = t .is ∙ rw (← b, back); fits = t .fits; within = omega (arith, t .within); many = t .many; few = t .few; counts = t .counts; first = λ f. absurd (omega (arith, t .within)) }
 
       module _ (d : ℕ) (e : some d ≡ nibble c) (hd : d < 16) (x : ℕ) (ex : x ≡ d) where
         pub digit-fits : x * unit ≤ 15 * unit
@@ -225,55 +183,55 @@ module _ (source : List ℕ) (prefix end : ℕ) (g : end ≤ length source) wher
               many = suc (t .many);
               few = fewer;
               counts = omega (arith, t .counts);
+              first = λ f. absurd (omega (arith, t .within));
             }
 
 -- ---- the limbs, one after the other
 
-pub record Limbed (source : List ℕ) (prefix : ℕ) (lent room : List ℕ) (k end : ℕ) : Type 0 where
-  pub is : limbs (digits 16 0 (drop prefix source)) ≡ take k room ++ limbs (before source prefix end)
-  pub behind : drop k room ≡ drop k lent
+-- The limbs in front of the room, and the number that is left.
+pub record Limbed (source : List ℕ) (prefix first : ℕ) (lent room : List ℕ) (n end : ℕ) : Type 0 where
+  pub is : limbs (digits 16 0 (drop prefix source)) ≡ take n room ++ limbs (before source first end)
+  pub behind : drop n room ≡ drop n lent
   pub long : length room ≡ length lent
+  pub fits : n ≤ length lent
   pub within : end ≤ length source
 
-module _ (source : List ℕ) (prefix : ℕ) (lent : List ℕ) where
+module _ (source : List ℕ) (prefix first : ℕ) (lead : Leading source prefix first) (lent : List ℕ) where
   abbrev whole : List ℕ
   whole = limbs (digits 16 0 (drop prefix source))
 
-  pub limbed-first : Limbed source prefix lent lent 0 (length source)
-  limbed-first = record { is = ap limbs (sym (before-all source prefix)); behind = refl; long = refl; within = omega arith }
+  pub limbed-first : Limbed source prefix first lent lent 0 (length source)
+  limbed-first = record { is = ap limbs (sym (before-all source first ∙ lead .same)); behind = refl; long = refl; fits = omega arith; within = omega arith }
 
-  module _ (n : ℕ) (en : length whole ≡ n) (room : List ℕ) (k end : ℕ) (t : Limbed source prefix lent room k end) (fit : n ≤ length lent) where
-    lengths : k ≤ n → n ≡ k + length (limbs (before source prefix end))
-    lengths h = sym en ∙ (ap length (t .is) ∙ (length-append (take k room) (limbs (before source prefix end)) ∙ rw (length-take-le k room (omega (arith, t .long)))))
+  module _ (room : List ℕ) (n end : ℕ) (t : Limbed source prefix first lent room n end) where
+    front : length (take n room) ≡ n
+    front = length-take-le n room (omega (arith, t .fits, t .long))
 
-    pub limbed-last : k ≡ n → Put whole lent (Words n) room
-    limbed-last e = (sym en, fit, go (limbs (before source prefix end)) (lengths (omega arith)) (t .is))
-      where
-        go : (l : List ℕ) → n ≡ k + length l → whole ≡ take k room ++ l → room ≡ whole ++ drop n lent
-        go [] q p = sym (take-append-drop k room) ∙ rw (p, append-nil, t .behind, e)
-        go (x ∷ l) q p = absurd (omega arith)
+    pub limbed-last : end ≤ first → Put whole lent (Words n) room
+    limbed-last h =
+        let e : whole ≡ take n room = t .is ∙ rw (before-over source first end h (t .within), limbs-zero, append-nil) in
+        rw e (sym front, t .fits, rw (← (t .behind)) (sym (take-append-drop n room)))
 
-    module _ (h : k < n) (value start : ℕ) (l : LimbBefore source prefix end value start) where
-      -- There is a limb left.
-      left : 0 < before source prefix end
-      left = go (before source prefix end) refl
-        where
-          go : (b : ℕ) → before source prefix end ≡ b → 0 < b
-          go zero e = absurd (omega (arith, lengths (omega arith), ap (λ (m : ℕ). length (limbs m)) e ∙ ap length limbs-zero))
-          go (suc b) e = omega arith
+    module _ (h : first < end) where
+      more : limbs (before source first end) ≡ before source first end % limbBase ∷ limbs (before source first end / limbBase)
+      more = limbs-more (before source first end) (lead .some end h (t .within))
 
-      next : limbs (before source prefix end) ≡ value ∷ limbs (before source prefix start)
-      next =
-          let q : before source prefix end / limbBase ≡ before source prefix start = omega (arith, l .is, l .fits) in
-          let r : before source prefix end % limbBase ≡ value = omega (arith, l .is, l .fits) in
-          limbs-more (before source prefix end) left ∙ rw (q, r)
+      pub limbed-full : length room ≤ n → length lent < length whole
+      limbed-full f = omega (arith, ap length (t .is), length-append (take n room) (limbs (before source first end)), ap length more, front, t .long)
 
-      pub limbed-next : Limbed source prefix lent (set room k value) (k + 1) start
-      limbed-next =
-          let f : k < length room = omega (arith, t .long) in
-          record {
-            is = t .is ∙ rw (next, add-one, take-suc-set room k value f, append-snoc);
-            behind = drop-set-lt (k + 1) room k value (omega arith) ∙ (sym (drop-drop 1 k room) ∙ (ap (drop 1) (t .behind) ∙ drop-drop 1 k lent));
-            long = length-set room k value ∙ t .long;
-            within = omega (arith, l .within, t .within);
-          }
+      module _ (f : n < length room) (value start : ℕ) (l : LimbBefore source first end value start) where
+        next : limbs (before source first end) ≡ value ∷ limbs (before source first start)
+        next =
+            let q : before source first end / limbBase ≡ before source first start = omega (arith, l .is, l .fits) in
+            let r : before source first end % limbBase ≡ value = omega (arith, l .is, l .fits) in
+            more ∙ rw (q, r)
+
+        pub limbed-next : Limbed source prefix first lent (set room n value) (n + 1) start
+        limbed-next =
+            record {
+              is = t .is ∙ rw (next, add-one, take-suc-set room n value f, append-snoc);
+              behind = drop-set-lt (n + 1) room n value (omega arith) ∙ (sym (drop-drop 1 n room) ∙ (ap (drop 1) (t .behind) ∙ drop-drop 1 n lent));
+              long = length-set room n value ∙ t .long;
+              fits = omega (arith, t .long);
+              within = omega (arith, l .within, t .within);
+            }

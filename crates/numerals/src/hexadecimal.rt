@@ -1,10 +1,10 @@
 // Hexadecimal numbers: eight digits make a limb.
 ghost use mathlib.Core.Path.{_≡_};
-ghost use Prim.Native.Nat.{_+_, _/_, _≤_, _<_};
+ghost use Prim.Native.Nat.{_≤_};
 ghost use lib.ListN.{length, drop};
 ghost use Rattle.literals.specs.Numbers.{limbs, digits};
 ghost use Rattle.values.specs.Kept.{Put};
-ghost use Rattle.numerals.specs.Hexadecimal.{Sized, Counts, LimbBefore};
+ghost use Rattle.numerals.specs.Hexadecimal.{Leading, LimbBefore};
 use reading::Maybe;
 use values::Count;
 use values::digit;
@@ -24,34 +24,25 @@ fn wide(x: u32) -> u64
     x as u64
 }
 
-// How many digits count after `n` that do, with `digit` behind them. A 0 in front doesn't.
-fn counted(n: usize, digit: u32) -> usize
-    requires { ⌜ (digit < 16) × (n < 18446744073709551615) ⌝ }
-    ensures { λ r. ⌜ Counts n digit r ⌝ }
+// Where the first digit that isn't 0 stands, from `prefix` on. What stands before it doesn't count.
+fn leading(source: &[u8], prefix: usize) -> usize
+    ensures { λ r. ⌜ Leading (now (source .entry)) prefix r ⌝ }
 {
-    if n == 0 {
-        if digit == 0 {
-            return 0;
-        }
-    }
-    n + 1
-}
-
-// How many digits of `source` count, from `prefix` on.
-fn significant(source: &[u8], prefix: usize) -> usize
-    ensures { λ r. ⌜ (r ≤ length (now (source .entry))) × Sized (digits 16 0 (drop prefix (now (source .entry)))) r ⌝ }
-{
-    let mut n = 0;
-    let mut i = prefix;
-    while i < source.len() {
+    let mut next = prefix;
+    while next < source.len() {
+        let i = next;
         let c = source[i] as u32;
-        i += 1;
+        next += 1;
         match digit::nibble(c) {
-            Maybe::Some(digit) => n = counted(n, digit),
+            Maybe::Some(digit) => {
+                if digit != 0 {
+                    return i;
+                }
+            }
             Maybe::None => {}
         }
     }
-    n
+    next
 }
 
 // The last eight digits before byte `end`, from `prefix` on, or as many as there are.
@@ -91,17 +82,18 @@ fn limb_before(source: &[u8], prefix: usize, end: usize) -> Limb
 pub(crate) fn put(source: &[u8], prefix: usize, room: &mut [u32]) -> Count
     ensures { λ r. ⌜ Put (limbs (digits 16 0 (drop prefix (now (source .entry))))) (now (room .entry)) r (now (room .exit)) ⌝ }
 {
-    let n = (significant(source, prefix) + 7) / 8;
-    if room.len() < n {
-        return Count::DontFit;
-    }
+    // From here on the number isn't 0 before its digits end, so each limb of it counts.
+    let first = leading(source, prefix);
     let mut end = source.len();
-    let mut k = 0;
-    while k < n {
-        let l = limb_before(source, prefix, end);
-        room[k] = l.value;
+    let mut n = 0;
+    while first < end {
+        if room.len() <= n {
+            return Count::DontFit;
+        }
+        let l = limb_before(source, first, end);
+        room[n] = l.value;
         end = l.start;
-        k += 1;
+        n += 1;
     }
     Count::Words(n)
 }

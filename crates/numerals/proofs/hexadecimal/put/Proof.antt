@@ -1,54 +1,56 @@
--- `put` meets its contract: the limbs so far, and those that are left, make the whole.
-use lib.ListN.{drop}
-use Rattle.literals.specs.Numbers.{digits}
-use Prim.Native.Nat.{_-_, _≤_}
-use Rattle.numerals.specs.Hexadecimal.{sized-limbs, sized-full, Limbed, limbed-first, limbed-next, limbed-last}
+-- `put` meets its contract: the limbs so far, and those of the number that is left, make the whole.
+use Rattle.numerals.specs.Hexadecimal.{Limbed, limbed-first, limbed-full, limbed-next, limbed-last}
 use borrow.Author.Needs.{needs}
-use native.Mathlib.Omega.{arith}
 use Rattle.numerals.proofs.hexadecimal.put.Statement.{statement}
 use Rattle.numerals.proofs.hexadecimal.put.Tie as tie
 
 abbrev Inv-loop : tie.InvT-loop
-Inv-loop source prefix room₀ n end₀ k₀ room end k = (k ≤ n) × Limbed source prefix room₀ room k end
+Inv-loop source prefix room₀ first end₀ n₀ room end n = Limbed source prefix first room₀ room n end
 
 abbrev μ-loop : tie.MeasureT-loop
-μ-loop source prefix room₀ n end₀ k₀ room end k = n - k
+μ-loop source prefix room₀ first end₀ n₀ room end n = end
 
-significant-requires : tie.Need-significant-requires Inv-loop μ-loop
-significant-requires c κs = search needs
-
-add-n : tie.Need-add-n Inv-loop μ-loop
-add-n c = omega (arith, c .significant .ensures .0)
-
-returns : tie.Need-returns Inv-loop μ-loop
-returns c = sized-full (c .before .significant .result) (digits 16 0 (drop (c .before .before .before .before .args .prefix) (c .before .before .before .before .args .source .now))) (c .before .before .before .before .args .room .now) (c .before .significant .ensures .1) (c .if1 .taken)
+leading-requires : tie.Need-leading-requires Inv-loop μ-loop
+leading-requires c κs = search needs
 
 loop-holds : tie.Need-loop-holds Inv-loop μ-loop
-loop-holds c = (omega arith, limbed-first _ _ _)
+loop-holds c = limbed-first _ _ _ (c .leading .ensures) _
+
+same-length : tie.Need-same-length Inv-loop μ-loop
+same-length c = c .before .before .loop .inv .long
+
+returns : tie.Need-returns Inv-loop μ-loop
+returns c =
+    let at-loop = c .before .before in
+    limbed-full _ _ _ (at-loop .before .leading .ensures) _ _ _ _ (at-loop .loop .inv) (c .before .loop-test .taken) (c .if1 .taken)
 
 limb-before-requires : tie.Need-limb-before-requires Inv-loop μ-loop
-limb-before-requires c κs = c .before .loop .inv .1 .within
+limb-before-requires c κs = c .before .before .loop .inv .within
 
 mul-room : tie.Need-mul-room Inv-loop μ-loop
 mul-room c = search needs
 
 slice-write-room : tie.Need-slice-write-room Inv-loop μ-loop
-slice-write-room c = omega (arith, c .before .before .loop .inv .1 .long)
+slice-write-room c = search needs
 
-add-k : tie.Need-add-k Inv-loop μ-loop
-add-k c = search needs
+add-n : tie.Need-add-n Inv-loop μ-loop
+add-n c = search needs
 
 loop-less : tie.Need-loop-less Inv-loop μ-loop
-loop-less c = search needs
+loop-less c = c .limb-before .ensures .past (c .before .before .loop-test .taken)
 
 loop-again : tie.Need-loop-again Inv-loop μ-loop
-loop-again c = (omega arith, limbed-next _ _ _ _ (sized-limbs _ _ (c .before .before .before .before .significant .ensures .1)) _ _ _ (c .before .before .loop .inv .1) (c .before .before .before .if1 .left) (c .before .loop-test .taken) _ _ (c .limb-before .ensures))
+loop-again c =
+    let at-loop-test = c .before .before in
+    let at-loop = at-loop-test .before in
+    limbed-next _ _ _ (at-loop .before .leading .ensures) _ _ _ _ (at-loop .loop .inv) (at-loop-test .loop-test .taken) (c .before .if1 .left) _ _
+    (c .limb-before .ensures)
 
-same-length : tie.Need-same-length Inv-loop μ-loop
-same-length c = c .before .loop .inv .1 .long
+same-length-2 : tie.Need-same-length-2 Inv-loop μ-loop
+same-length-2 c = c .before .loop .inv .long
 
 returns-2 : tie.Need-returns-2 Inv-loop μ-loop
-returns-2 c = limbed-last _ _ _ _ (sized-limbs _ _ (c .before .before .before .significant .ensures .1)) _ _ _ (c .before .loop .inv .1) (c .before .before .if1 .left) (omega arith)
+returns-2 c = limbed-last _ _ _ (c .before .before .leading .ensures) _ _ _ _ (c .before .loop .inv) (c .loop-test .left)
 
 pub put-spec : {M : Type 1} → statement M
 put-spec =
@@ -56,15 +58,15 @@ put-spec =
     (tie.spec
     Inv-loop
     μ-loop
-    significant-requires
-    add-n
-    returns
+    leading-requires
     loop-holds
+    same-length
+    returns
     limb-before-requires
     mul-room
     slice-write-room
-    add-k
+    add-n
     loop-less
     loop-again
-    same-length
+    same-length-2
     returns-2)
