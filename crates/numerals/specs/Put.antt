@@ -52,6 +52,13 @@ module _ (v : ℕ) (lent : List ℕ) (r : Count) (room : List ℕ) (t : Put (lim
     pub put-fits : n ≤ length room
     put-fits = omega (arith, put-length, put .1)
 
+    pub put-behind : (m : ℕ) → n ≤ m → drop m room ≡ drop m lent
+    put-behind m g = rw (put .2) (dropped-more (limbs v) lent n m (sym (put .0)) g)
+
+    -- What is put over it is put in front of the same words.
+    pub put-over : (ws : List ℕ) (m : ℕ) (out : List ℕ) → n ≤ m → Put ws room (Words m) out → Put ws lent (Words m) out
+    put-over ws m out g q = (q .0, omega (arith, q .1, put-length), q .2 ∙ ap (λ (l : List ℕ). ws ++ l) (put-behind m g))
+
     module _ (unit value : ℕ) (pos : 0 < unit) where
       next-limbs : grown unit value (take n room) ≡ limbs (v * unit + value)
       next-limbs = rw (put .2, take-at (limbs v) (drop n lent) n (sym (put .0))) (sym (limbs-times unit pos v value))
@@ -59,9 +66,7 @@ module _ (v : ℕ) (lent : List ℕ) (r : Count) (room : List ℕ) (t : Put (lim
       pub put-more : (s : Count) (out : List ℕ) → Pushed unit value room n s out → Put (limbs (v * unit + value)) lent s out
       put-more (Words m) out p =
           let q : Put (limbs (v * unit + value)) room (Words m) out = rw next-limbs at p in
-          let g : n ≤ m = omega (arith, q .0, put .0, limbs-grow unit pos v value) in
-          let dropped : drop m room ≡ drop m lent = rw (put .2) (dropped-more (limbs v) lent n m (sym (put .0)) g) in
-          (q .0, omega (arith, q .1, put-length), q .2 ∙ ap (λ (l : List ℕ). limbs (v * unit + value) ++ l) dropped)
+          put-over (limbs (v * unit + value)) m out (omega (arith, q .0, put .0, limbs-grow unit pos v value)) q
       put-more DontFit out p = omega (arith, p, ap length next-limbs, put-length)
 
   pub put-full : r ≡ DontFit → length lent < length (limbs v)
@@ -78,6 +83,11 @@ pub record Digits (radix : ℕ) (source : List ℕ) (prefix : ℕ) (lent room : 
   pub value : ℕ
   pub left : digits radix value (drop i source) ≡ digits radix 0 (drop prefix source)
   pub words : Put (limbs value) lent (Words n) room
+
+-- The same, or that there is no room for the number.
+abbrev pub Begun : ℕ → List ℕ → ℕ → List ℕ → Count → List ℕ → ℕ → Type 0
+Begun radix source prefix lent (Words n) room i = Digits radix source prefix lent room n i
+Begun radix source prefix lent DontFit room i = length lent < length (limbs (digits radix 0 (drop prefix source)))
 
 module _ (radix : ℕ) (source : List ℕ) (prefix : ℕ) (lent : List ℕ) where
   pub digits-first : Digits radix source prefix lent lent 0 prefix
@@ -96,6 +106,12 @@ module _ (radix : ℕ) (source : List ℕ) (prefix : ℕ) (lent : List ℕ) wher
         let e : t .value ≡ digits radix 0 (drop prefix source) = rw (drop-of-length-le source h) at (t .left) in
         rw (← e) (t .words)
 
+    -- The room as it is now may be taken for what was lent.
+    pub digits-here : Digits radix source prefix room room n i
+    digits-here =
+        let behind : drop n lent ≡ drop n room = sym (put-behind (t .value) lent (Words n) room (t .words) n refl n (omega arith)) in
+        record { value = t .value; left = t .left; words = (t .words .0, digits-fit, t .words .2 ∙ rw behind) }
+
     -- Some digits more.
     module _ (pos : 0 < radix) (r : Count) (out : List ℕ) (j : ℕ) (k : Takes radix source i room n r out j) where
       next : ℕ
@@ -112,5 +128,12 @@ module _ (radix : ℕ) (source : List ℕ) (prefix : ℕ) (lent : List ℕ) wher
       pub digits-full : r ≡ DontFit → Put (limbs (digits radix 0 (drop prefix source))) lent DontFit out
       digits-full f = rw (← next-left) (omega (arith, put-full next lent r out next-words f, digits-grow radix pos next (drop j source)))
 
-      pub digits-more : (m : ℕ) → r ≡ Words m → Digits radix source prefix lent out m j
-      digits-more m f = record { value = next; left = next-left; words = put next lent r out next-words m f }
+      pub digits-more : (m : ℕ) → r ≡ Words m → (n ≤ m) × Digits radix source prefix lent out m j
+      digits-more m f =
+          let words = put next lent r out next-words m f in
+          let longer : length (limbs (t .value)) ≤ length (limbs next) = unfold next in (limbs-grow (k .unit) (k .chunk .some) (t .value) (k .value)) in
+          (omega (arith, t .words .0, words .0), record { value = next; left = next-left; words = words })
+
+    pub digits-there : (room′ : List ℕ) (m j : ℕ) → n ≤ m → Digits radix source prefix room room′ m j → Digits radix source prefix lent room′ m j
+    digits-there room′ m j g t′ =
+        record { value = t′ .value; left = t′ .left; words = put-over (t .value) lent (Words n) room (t .words) n refl (limbs (t′ .value)) m room′ g (t′ .words) }

@@ -11,7 +11,7 @@ ghost use Rattle.numerals.specs.Numbers.{radixOf, Pushed};
 ghost use Rattle.numerals.specs.Times.{Parted};
 ghost use Rattle.numerals.specs.Four.{unit, number, Positive};
 ghost use Rattle.numerals.specs.Chunks.{Radix, Chunk};
-ghost use Rattle.numerals.specs.Put.{Takes};
+ghost use Rattle.numerals.specs.Put.{Takes, Begun};
 ghost use Rattle.values.specs.Kept.{Put, Kept};
 
 mod hexadecimal;
@@ -226,19 +226,32 @@ fn take_four(source: &[u8], i: usize, radix: u32, room: &mut [u32], n: usize) ->
 // As many bytes as four chunks of decimal digits are.
 const FOUR_CHUNKS: usize = 36;
 
-// A chunk, or four where there are many digits.
-fn take_some(source: &[u8], i: usize, radix: u32, room: &mut [u32], n: usize) -> Taken
-    requires { ⌜ (i < length (now source)) × (n ≤ length (now room)) × Radix radix ⌝ }
-    ensures { λ r. ⌜ Takes radix (now (source .entry)) i (now (room .entry)) n (r .count) (now (room .exit)) (r .next) ⌝ }
+// The limbs of the number that the digits of `source` from `prefix` on make, in front of `room`, but for the last digits:
+// four chunks at a time, as long as there are so many.
+fn put_fours(source: &[u8], prefix: usize, radix: u32, room: &mut [u32]) -> Taken
+    requires { ⌜ Radix radix ⌝ }
+    ensures { λ r. ⌜ Begun radix (now (source .entry)) prefix (now (room .entry)) (r .count) (now (room .exit)) (r .next) ⌝ }
 {
-    if FOUR_CHUNKS <= source.len() - i {
-        return take_four(source, i, radix, room, n);
+    let mut n = 0;
+    let mut i = prefix;
+    while i < source.len() {
+        if source.len() - i < FOUR_CHUNKS {
+            return Taken {
+                count: Count::Words(n),
+                next: i,
+            };
+        }
+        let t = take_four(source, i, radix, room, n);
+        i = t.next;
+        let count = t.count;
+        match count {
+            Count::Words(m) => n = m,
+            Count::DontFit => return t,
+        }
     }
-    let p = chunk_at(source, i, radix);
-    let count = push(room, n, p.unit, p.value);
     Taken {
-        count,
-        next: p.next,
+        count: Count::Words(n),
+        next: i,
     }
 }
 
@@ -247,13 +260,17 @@ fn put_chunks(source: &[u8], prefix: usize, radix: u32, room: &mut [u32]) -> Cou
     requires { ⌜ Radix radix ⌝ }
     ensures { λ r. ⌜ Put (limbs (digits radix 0 (drop prefix (now (source .entry))))) (now (room .entry)) r (now (room .exit)) ⌝ }
 {
-    let mut n = 0;
-    let mut i = prefix;
+    let t = put_fours(source, prefix, radix, room);
+    let count = t.count;
+    let Count::Words(fours) = count else {
+        return Count::DontFit;
+    };
+    let mut n = fours;
+    let mut i = t.next;
     while i < source.len() {
-        let t = take_some(source, i, radix, room, n);
-        i = t.next;
-        let count = t.count;
-        match count {
+        let p = chunk_at(source, i, radix);
+        i = p.next;
+        match push(room, n, p.unit, p.value) {
             Count::Words(m) => n = m,
             Count::DontFit => return Count::DontFit,
         }
