@@ -2,7 +2,7 @@
 ghost use mathlib.Core.Path.{_≡_};
 ghost use Prim.Native.Nat.{_+_, _*_, _≤_, _<_};
 ghost use lib.ListN.{length, drop};
-ghost use Rattle.literals.specs.Numbers.{limbs, digits, numberValue};
+ghost use Rattle.literals.specs.Numbers.{nibble, limbs, digits, numberValue};
 ghost use Rattle.literals.specs.Spelling.{spelling};
 ghost use Rattle.definition.specs.Prog.{value, memory};
 ghost use Rattle.reading.specs.Does.{Does};
@@ -12,6 +12,7 @@ ghost use Rattle.numerals.specs.Times.{Parted};
 ghost use Rattle.numerals.specs.Four.{unit, number, Positive};
 ghost use Rattle.numerals.specs.Chunks.{Radix, Chunk};
 ghost use Rattle.numerals.specs.Put.{Takes, Begun};
+ghost use Rattle.values.specs.Digits.{option, Under};
 ghost use Rattle.values.specs.Kept.{Put, Kept};
 
 mod hexadecimal;
@@ -153,6 +154,18 @@ pub(crate) struct Digits {
     pub next: usize,
 }
 
+// `nibble`, where 0 to 9 are expected: they are told first.
+fn digit_of(c: u32) -> Maybe
+    ensures { λ r. ⌜ (option r ≡ nibble c) × Under 16 r ⌝ }
+{
+    if 48 <= c {
+        if c <= 57 {
+            return Maybe::Some(c - 48);
+        }
+    }
+    digit::nibble(c)
+}
+
 // A unit below which a digit more fits, also one above the radix.
 const SMALL_UNIT: u32 = 143165577;
 
@@ -174,7 +187,7 @@ fn chunk_at(source: &[u8], i: usize, radix: u32) -> Digits
         }
         let c = source[j] as u32;
         j += 1;
-        match digit::nibble(c) {
+        match digit_of(c) {
             Maybe::Some(digit) => {
                 value = value * radix + digit;
                 unit *= radix;

@@ -29,8 +29,8 @@ cast-c c = omega (arith, c .shared-slice-known2 .given (c .before .before .befor
 add-j : tie.Need-add-j Inv-loop μ-loop
 add-j c = search needs
 
-nibble-requires : tie.Need-nibble-requires Inv-loop μ-loop
-nibble-requires c κs = search needs
+digit-of-requires : tie.Need-digit-of-requires Inv-loop μ-loop
+digit-of-requires c κs = search needs
 
 enum-known-digit : tie.Need-enum-known-digit Inv-loop μ-loop
 enum-known-digit c = search needs
@@ -38,27 +38,27 @@ enum-known-digit c = search needs
 mul-value : tie.Need-mul-value Inv-loop μ-loop
 mul-value c =
     let at-digit = c .before in
-    let at-nibble = at-digit .before .before in
-    let at-if1 = at-nibble .before .before in
+    let at-digit-of = at-digit .before .before in
+    let at-if1 = at-digit-of .before .before in
     let at-loop = at-if1 .before .before in
     let at-pre = at-loop .before .before in
     omega (
       arith,
       chunk-fits _ (at-pre .pre) _ _ _ _ _ (at-loop .loop .inv) (at-if1 .if1 .left) _
-          (rw (at-digit .digit .given .1) at (at-nibble .nibble .ensures .1)),
+          (rw (at-digit .digit .given .1) at (at-digit-of .digit-of .ensures .1)),
     )
 
 add-value : tie.Need-add-value Inv-loop μ-loop
 add-value c =
     let at-digit = c .before in
-    let at-nibble = at-digit .before .before in
-    let at-if1 = at-nibble .before .before in
+    let at-digit-of = at-digit .before .before in
+    let at-if1 = at-digit-of .before .before in
     let at-loop = at-if1 .before .before in
     let at-pre = at-loop .before .before in
     omega (
       arith,
       chunk-fits _ (at-pre .pre) _ _ _ _ _ (at-loop .loop .inv) (at-if1 .if1 .left) _
-          (rw (at-digit .digit .given .1) at (at-nibble .nibble .ensures .1)),
+          (rw (at-digit .digit .given .1) at (at-digit-of .digit-of .ensures .1)),
     )
 
 mul-unit : tie.Need-mul-unit Inv-loop μ-loop
@@ -74,12 +74,12 @@ loop-less c = search needs
 loop-again : tie.Need-loop-again Inv-loop μ-loop
 loop-again c =
     let at-digit = c .before in
-    let at-nibble = at-digit .before .before in
-    let at-loop-test = at-nibble .before .before .before in
+    let at-digit-of = at-digit .before .before in
+    let at-loop-test = at-digit-of .before .before .before in
     let at-loop = at-loop-test .before in
     let at-pre = at-loop .before .before in
     chunked-some _ (at-pre .pre) _ _ _ _ _ (at-loop .loop .inv) _ refl (at-loop-test .loop-test .taken) _
-    (rw (at-digit .digit .given .1) at (at-nibble .nibble .ensures .0)) (rw (at-digit .digit .given .1) at (at-nibble .nibble .ensures .1))
+    (rw (at-digit .digit .given .1) at (at-digit-of .digit-of .ensures .0)) (rw (at-digit .digit .given .1) at (at-digit-of .digit-of .ensures .1))
 
 enum-told : tie.Need-enum-told Inv-loop μ-loop
 enum-told c = search needs
@@ -89,12 +89,12 @@ loop-less-2 c = search needs
 
 loop-again-2 : tie.Need-loop-again-2 Inv-loop μ-loop
 loop-again-2 c =
-    let at-nibble = c .before .before in
-    let at-loop-test = at-nibble .before .before .before in
+    let at-digit-of = c .before .before in
+    let at-loop-test = at-digit-of .before .before .before in
     let at-loop = at-loop-test .before in
     let at-pre = at-loop .before .before in
     chunked-none _ (at-pre .pre) _ _ _ _ _ (at-loop .loop .inv) _ refl (at-loop-test .loop-test .taken)
-    (rw (c .enum-told .given .1) at (at-nibble .nibble .ensures .0))
+    (rw (c .enum-told .given .1) at (at-digit-of .digit-of .ensures .0))
 
 returns-2 : tie.Need-returns-2 Inv-loop μ-loop
 returns-2 c = chunked-last _ (c .before .before .before .pre) _ _ _ _ _ (c .before .loop .inv) (c .loop-test .left)
@@ -110,7 +110,7 @@ chunk-at-spec =
     shared-slice-read-c
     cast-c
     add-j
-    nibble-requires
+    digit-of-requires
     enum-known-digit
     mul-value
     add-value
