@@ -13,7 +13,7 @@ pub fn print() {
         "lexing, ns a byte: the middle of {SAMPLES} samples; ratio: the middle, lower and upper quarter, above 1 where the tables are faster"
     );
     println!(
-        "{:<22}{:>7}{:>10}{:>11}  {}",
+        "{:<23}{:>7}{:>10}{:>11}  {}",
         "kind", "bytes", "tables", "branching", "branching / tables"
     );
     print_rows(&LEX_KINDS, row);

@@ -1,7 +1,7 @@
 //! The library's reading and lexing, into slices that a caller keeps.
 
 use plank::{
-    NODE_WIDTH, Refusal,
+    MAX_TEXT, NODE_WIDTH, Refusal,
     raw::{self, Counts, Lengths},
 };
 use std::hint::black_box;
@@ -21,14 +21,23 @@ pub struct Slices {
 impl Slices {
     /// As many words as the text needs, and a quarter more.
     pub fn for_text(text: &[u8]) -> Self {
-        let enough = Lengths::enough(text.len());
-        let counts = Slices::of(enough).read(text);
-        Slices::of(Lengths {
+        Slices::enough().fitting(text).expect("the text is read")
+    }
+
+    /// For any text.
+    pub fn enough() -> Self {
+        Slices::of(Lengths::enough(MAX_TEXT))
+    }
+
+    /// For this text; none where it is refused.
+    pub fn fitting(&mut self, text: &[u8]) -> Option<Self> {
+        let counts = self.try_read(text).ok()?;
+        Some(Slices::of(Lengths {
             tokens: with_more(counts.tokens),
             nodes: with_more(NODE_WIDTH * counts.nodes),
             values: with_more(counts.values),
             reports: with_more(3 * counts.reports),
-        })
+        }))
     }
 
     fn of(lengths: Lengths) -> Self {
@@ -41,8 +50,12 @@ impl Slices {
     }
 
     pub fn read(&mut self, text: &[u8]) -> Counts {
+        self.try_read(text).expect("the slices suffice")
+    }
+
+    fn try_read(&mut self, text: &[u8]) -> Result<Counts, Refusal> {
         let Slices { tokens, nodes, values, reports } = self;
-        raw::read(black_box(text), tokens, nodes, values, reports).expect("the slices suffice")
+        raw::read(black_box(text), tokens, nodes, values, reports)
     }
 }
 

@@ -1,54 +1,81 @@
 //! The texts that are timed: a kind is what a text is made of, over and over.
 
+pub mod scripts;
 mod tokens;
+pub mod worst;
 
 use generate::Rng;
 
 pub struct Kind {
     name: &'static str,
+    sizes: &'static [usize],
     make: fn(usize) -> String,
 }
 
-const SIZES: [usize; 3] = [200, 4_096, 65_536];
+pub const LONGEST: usize = 65_536;
 
-pub const READ_KINDS: [Kind; 10] = [
-    Kind { name: "declarations", make: declarations },
-    Kind { name: "names, all different", make: different_names },
-    Kind { name: "one name", make: one_name },
-    Kind { name: "nests", make: nests },
-    Kind { name: "long string", make: long_string },
-    Kind { name: "long string, accents", make: long_string_of_accents },
-    Kind { name: "long decimal", make: long_decimal },
-    Kind { name: "long hexadecimal", make: long_hexadecimal },
-    Kind { name: "comments", make: comments },
-    Kind { name: "a report a line", make: reports },
+const SIZES: &[usize] = &[200, 4_096, LONGEST];
+
+pub const READ_KINDS: [Kind; 16] = [
+    Kind::new("scripts", scripts::scripts),
+    Kind::new("declarations", declarations),
+    Kind::new("names, all different", different_names),
+    Kind::new("one name", one_name),
+    Kind::new("nests of brackets", nests),
+    Kind::new("nests of blocks", nested_blocks),
+    Kind::new("comments", comments),
+    Kind::new("short strings", short_strings),
+    Kind::new("hexadecimals", hexadecimals),
+    Kind::new("decimals", decimals),
+    Kind::new("long string", long_string),
+    Kind::new("long string, accents", long_string_of_accents),
+    Kind::new("long hexadecimal", long_hexadecimal),
+    Kind::new("long decimal", long_decimal),
+    Kind::new("a report a line", reports),
+    Kind::new("reports in statements", reports_in_statements),
+];
+
+pub const WORST_KINDS: [Kind; 3] = [
+    Kind::longest("names behind the table", worst::names_behind_the_table),
+    Kind::longest("names of one bucket", worst::names_of_one_bucket),
+    Kind::longest("long decimals", worst::long_decimals),
 ];
 
 pub const LEX_KINDS: [Kind; 8] = [
-    Kind { name: "declarations", make: declarations },
-    Kind { name: "operators", make: tokens::operators },
-    Kind { name: "names", make: tokens::names },
-    Kind { name: "numbers", make: tokens::numbers },
-    Kind { name: "blanks", make: tokens::blanks },
-    Kind { name: "keywords", make: tokens::keywords },
-    Kind { name: "comments", make: comments },
-    Kind { name: "strings", make: tokens::strings },
+    Kind::new("declarations", declarations),
+    Kind::new("operators", tokens::operators),
+    Kind::new("names", tokens::names),
+    Kind::new("numbers", tokens::numbers),
+    Kind::new("blanks", tokens::blanks),
+    Kind::new("keywords", tokens::keywords),
+    Kind::new("comments", comments),
+    Kind::new("strings", tokens::strings),
 ];
 
 /// A row for each kind and length: what `row` says of the text.
 pub fn print_rows(kinds: &[Kind], row: fn(&str) -> String) {
     for kind in kinds {
-        for size in SIZES {
-            let text = kind.text(size);
-            println!("{:<22}{:>7}{}", kind.name, text.len(), row(&text));
+        for size in kind.sizes {
+            let text = kind.text(*size);
+            println!("{:<23}{:>7}{}", kind.name, text.len(), row(&text));
         }
     }
 }
 
 impl Kind {
+    const fn new(name: &'static str, make: fn(usize) -> String) -> Self {
+        Kind { name, sizes: SIZES, make }
+    }
+
+    /// Where nothing is slow in a short text.
+    const fn longest(name: &'static str, make: fn(usize) -> String) -> Self {
+        Kind { name, sizes: &[LONGEST], make }
+    }
+
     fn text(&self, size: usize) -> String {
         let text = (self.make)(size);
-        assert!(text.len() <= size && size < text.len() + 200, "{}: {}", self.name, text.len());
+        let room = 200.max(size / 50);
+        assert!(text.len() <= size && size < text.len() + room, "{}: {}", self.name, text.len());
         text
     }
 }
@@ -116,10 +143,36 @@ fn long_hexadecimal(size: usize) -> String {
     within("const a = 0x", "7f19", ";", size)
 }
 
+/// Blocks in blocks, and a value in the innermost.
+fn nested_blocks(size: usize) -> String {
+    filled(size, |_| "init { if a { while b { { { c = { 1 }; } } } } }\n".to_string())
+}
+
+fn short_strings(size: usize) -> String {
+    filled(size, |i| {
+        if i % 2 == 0 { "const a = \"oak\";\n" } else { "const b = \"ash, felled\";\n" }.to_string()
+    })
+}
+
+fn hexadecimals(size: usize) -> String {
+    let mut rng = Rng::new(1);
+    filled(size, |_| format!("const a = 0x{:x};\n", rng.next_u64() >> rng.below(64)))
+}
+
+fn decimals(size: usize) -> String {
+    let mut rng = Rng::new(1);
+    filled(size, |_| format!("const a = {};\n", rng.next_u64() >> rng.below(64)))
+}
+
 fn comments(size: usize) -> String {
     filled(size, |_| "// a line about stems\n/* and /* one */ inside */\n".to_string())
 }
 
 fn reports(size: usize) -> String {
     filled(size, |_| "const = 1;\n".to_string())
+}
+
+fn reports_in_statements(size: usize) -> String {
+    const BLOCK: &str = "init {\n    let = 1;\n    a = ;\n    f(1;\n    b c;\n}\n";
+    filled(size, |_| BLOCK.to_string())
 }
