@@ -49,7 +49,7 @@ fn over_slow_stand_ins(text: &str) {
     black_box((lexed, session));
 }
 
-fn over_fast_stand_ins(text: &str) {
+pub fn over_fast_stand_ins(text: &str) {
     use fast_core::Idx;
     use fast_session::{Session, SourceId};
     use rival::{lexer::Lexed, parser::parse};

@@ -4,13 +4,15 @@ mod recipe;
 
 use crate::{
     library::Slices,
+    read::over_fast_stand_ins,
     texts::{LONGEST, scripts::scripts},
     timing::{in_turn, middle, ratios, sampler},
 };
 use generate::Rng;
-use recipe::{Names, Recipe};
+use recipe::{Names, Pantry, Recipe};
 use std::{
     hint::black_box,
+    panic, thread,
     time::{Duration, Instant},
 };
 
@@ -42,24 +44,34 @@ const DRAWN: usize = 12;
 /// So much slower is a gain; less may be chance.
 const GAIN: f64 = 1.02;
 
-/// So many of the climbs' ends are told.
-const TOLD: usize = 8;
+/// So many of the climbs' ends are told for each pantry.
+const TOLD: usize = 4;
 
+/// A third of the time for each pantry, as names that are slow would hide all else.
 pub fn print(options: &Options) {
-    let mut search = Search::new(options.seed);
-    let end = Instant::now() + Duration::from_secs(options.seconds);
-    let mut found = Vec::new();
-    while Instant::now() < end {
-        found.push(search.climb(end));
-    }
-    println!("seed {}: {} climbs, {} texts", options.seed, found.len(), search.timed);
-    found.sort_by(|one, other| other.time.total_cmp(&one.time));
     println!(
-        "{:>10}{:>10}  {:<24}  {}",
-        "read", "scripts", "read / scripts", "recipe, ns a byte: the middle of samples in turn"
+        "{:>10}{:>10}{:>10}  {:<23}  {:<23}  {}",
+        "read",
+        "scripts",
+        "fast",
+        "read / scripts",
+        "read / fast",
+        "recipe; ns a byte: the middle of samples in turn"
     );
-    for climbed in found.iter().take(TOLD) {
-        println!("{}  {}", search.beside_scripts(&climbed.recipe), climbed.recipe);
+    panic::set_hook(Box::new(|_| {}));
+    let share = Duration::from_secs(options.seconds) / Pantry::ALL.len() as u32;
+    for pantry in Pantry::ALL {
+        let mut search = Search::new(options.seed, pantry);
+        let end = Instant::now() + share;
+        let mut found = Vec::new();
+        while Instant::now() < end {
+            found.push(search.climb(end));
+        }
+        found.sort_by(|one, other| other.time.total_cmp(&one.time));
+        println!("{pantry}: {} climbs, {} texts", found.len(), search.timed);
+        for climbed in found.iter().take(TOLD) {
+            println!("{}  {}", search.beside_others(&climbed.recipe), climbed.recipe);
+        }
     }
 }
 
@@ -70,14 +82,16 @@ struct Climbed {
 
 struct Search {
     rng: Rng,
+    pantry: Pantry,
     names: Names,
     enough: Slices,
     timed: usize,
 }
 
 impl Search {
-    fn new(seed: u64) -> Self {
-        Search { rng: Rng::new(seed), names: Names::new(), enough: Slices::enough(), timed: 0 }
+    fn new(seed: u64, pantry: Pantry) -> Self {
+        let (rng, names, enough) = (Rng::new(seed), Names::new(), Slices::enough());
+        Search { rng, pantry, names, enough, timed: 0 }
     }
 
     fn climb(&mut self, end: Instant) -> Climbed {
@@ -91,7 +105,7 @@ impl Search {
         let mut in_vain = 0;
         while in_vain < PATIENCE && Instant::now() < end {
             in_vain += 1;
-            let recipe = best.recipe.changed(&mut self.rng);
+            let recipe = best.recipe.changed(&mut self.rng, self.pantry);
             let time = self.time(&recipe);
             if best.time * GAIN < time {
                 best = Climbed { recipe, time };
@@ -102,7 +116,7 @@ impl Search {
     }
 
     fn drawn(&mut self) -> Climbed {
-        let recipe = Recipe::drawn(&mut self.rng);
+        let recipe = Recipe::drawn(&mut self.rng, self.pantry);
         let time = self.time(&recipe);
         Climbed { recipe, time }
     }
@@ -110,36 +124,54 @@ impl Search {
     /// Nanoseconds a byte, the shortest of a few; 0 where the text is refused.
     fn time(&mut self, recipe: &Recipe) -> f64 {
         const TRIES: usize = 4;
+        /// Seconds from which on a call is told from chance.
+        const LONG: f64 = 0.03;
         self.timed += 1;
         let text = recipe.text(&self.names, LONGEST);
         let Some(mut slices) = self.enough.fitting(text.as_bytes()) else { return 0.0 };
-        let seconds = (0..TRIES).map(|_| {
+        let mut shortest = f64::INFINITY;
+        for _ in 0..TRIES {
             let start = Instant::now();
             black_box(slices.read(text.as_bytes()));
-            start.elapsed().as_secs_f64()
-        });
-        seconds.fold(f64::INFINITY, f64::min) * 1e9 / text.len() as f64
+            shortest = shortest.min(start.elapsed().as_secs_f64());
+            if LONG < shortest {
+                break;
+            }
+        }
+        shortest * 1e9 / text.len() as f64
     }
 
-    fn beside_scripts(&mut self, recipe: &Recipe) -> String {
+    /// The text is read beside scripts of its length, and beside the reference over fast stand-ins
+    /// unless that panics.
+    fn beside_others(&mut self, recipe: &Recipe) -> String {
         let (text, ordinary) = (recipe.text(&self.names, LONGEST), scripts(LONGEST));
-        let (text, ordinary) = (text.as_bytes(), ordinary.as_bytes());
-        let mut slices = [Slices::for_text(text), Slices::for_text(ordinary)];
+        let mut slices = [&text, &ordinary].map(|text| Slices::for_text(text.as_bytes()));
         let [first, second] = &mut slices;
         let read = sampler(|| {
-            black_box(first.read(text));
+            black_box(first.read(text.as_bytes()));
         });
         let scripts = sampler(|| {
-            black_box(second.read(ordinary));
+            black_box(second.read(ordinary.as_bytes()));
         });
-        let [read, mut scripts] = in_turn([read, scripts], text.len());
+        let panics = panic::catch_unwind(|| over_fast_stand_ins(&text)).is_err();
+        let fast = sampler(|| if panics { idle() } else { over_fast_stand_ins(&text) });
+        let [read, mut scripts, fast] = in_turn([read, scripts, fast], text.len());
         let scale = text.len() as f64 / ordinary.len() as f64;
         scripts.iter_mut().for_each(|time| *time *= scale);
+        let (time, ratio) = if panics {
+            ("panics".to_string(), String::new())
+        } else {
+            (format!("{:.1}", middle(&fast)), ratios(&read, &fast))
+        };
         format!(
-            "{:>10.1}{:>10.1}  {:<24}",
+            "{:>10.1}{:>10.1}{time:>10}  {:<23}  {ratio:<23}",
             middle(&read),
             middle(&scripts),
             ratios(&read, &scripts)
         )
     }
+}
+
+fn idle() {
+    thread::sleep(Duration::from_millis(20));
 }

@@ -25,6 +25,28 @@ enum Piece {
     NameInBucket,
 }
 
+/// Of what pieces a search may take.
+#[derive(Clone, Copy, PartialEq, Eq)]
+pub enum Pantry {
+    Texts,
+    NewNames,
+    NamesInBucket,
+}
+
+impl Pantry {
+    pub const ALL: [Pantry; 3] = [Pantry::Texts, Pantry::NewNames, Pantry::NamesInBucket];
+}
+
+impl fmt::Display for Pantry {
+    fn fmt(&self, f: &mut fmt::Formatter<'_>) -> fmt::Result {
+        f.write_str(match self {
+            Pantry::Texts => "fixed pieces",
+            Pantry::NewNames => "and new names",
+            Pantry::NamesInBucket => "and new names in one bucket",
+        })
+    }
+}
+
 /// What opens, parts and closes the things that a script has.
 const STRUCTURE: [&str; 44] = [
     "const a = ",
@@ -79,53 +101,52 @@ const TIMES: [usize; 12] = [1, 1, 1, 2, 3, 8, 30, 100, 300, 1_000, 8_000, 32_768
 const PARTS: usize = 8;
 
 impl Piece {
-    fn drawn(rng: &mut Rng) -> Self {
+    fn drawn(rng: &mut Rng, pantry: Pantry) -> Self {
         match rng.below(10) {
-            0..5 => Piece::Text(rng.pick(&STRUCTURE)),
-            5..8 => Piece::Text(rng.pick(TOKENS)),
-            8 => Piece::NewName,
-            _ => Piece::NameInBucket,
+            8 if pantry != Pantry::Texts => Piece::NewName,
+            9 if pantry == Pantry::NamesInBucket => Piece::NameInBucket,
+            0..6 => Piece::Text(rng.pick(&STRUCTURE)),
+            _ => Piece::Text(rng.pick(TOKENS)),
         }
     }
 }
 
 impl Part {
-    fn drawn(rng: &mut Rng) -> Self {
-        Part { piece: Piece::drawn(rng), times: TIMES[rng.below(TIMES.len())] }
+    fn drawn(rng: &mut Rng, pantry: Pantry) -> Self {
+        Part { piece: Piece::drawn(rng, pantry), times: TIMES[rng.below(TIMES.len())] }
     }
 }
 
 impl Recipe {
-    pub fn drawn(rng: &mut Rng) -> Self {
-        let mut parts = |most| (0..rng.below(most)).map(|_| Part::drawn(rng)).collect();
-        let (front, mut cycle): (Vec<Part>, Vec<Part>) = (parts(3), parts(5));
-        cycle.push(Part::drawn(rng));
-        Recipe { front, cycle }
+    pub fn drawn(rng: &mut Rng, pantry: Pantry) -> Self {
+        let (in_front, in_cycle) = (rng.below(3), 1 + rng.below(5));
+        let mut parts = |count| (0..count).map(|_| Part::drawn(rng, pantry)).collect();
+        Recipe { front: parts(in_front), cycle: parts(in_cycle) }
     }
 
     /// One to three changes.
-    pub fn changed(&self, rng: &mut Rng) -> Self {
+    pub fn changed(&self, rng: &mut Rng, pantry: Pantry) -> Self {
         let mut recipe = self.clone();
         for _ in 0..1 + rng.below(3) {
-            recipe.change(rng);
+            recipe.change(rng, pantry);
         }
         recipe
     }
 
-    fn change(&mut self, rng: &mut Rng) {
+    fn change(&mut self, rng: &mut Rng, pantry: Pantry) {
         let (parts, least) =
             if rng.chance(1, 3) { (&mut self.front, 0) } else { (&mut self.cycle, 1) };
         let at = rng.below(parts.len() + 1);
         let has_part = at < parts.len();
         match rng.below(5) {
-            0 if has_part => parts[at].piece = Piece::drawn(rng),
+            0 if has_part => parts[at].piece = Piece::drawn(rng, pantry),
             1 if has_part => parts[at].times = TIMES[rng.below(TIMES.len())],
             2 if has_part && least < parts.len() => drop(parts.remove(at)),
             3 if has_part => {
                 let other = rng.below(parts.len());
                 parts.swap(at, other);
             }
-            _ if parts.len() < PARTS => parts.insert(at, Part::drawn(rng)),
+            _ if parts.len() < PARTS => parts.insert(at, Part::drawn(rng, pantry)),
             _ => {}
         }
     }
