@@ -12,10 +12,7 @@ pub fn print() {
     println!(
         "lexing, ns a byte: the middle of {SAMPLES} samples; ratio: the middle, lower and upper quarter, above 1 where the tables are faster"
     );
-    println!(
-        "{:<23}{:>7}{:>10}{:>11}  {}",
-        "kind", "bytes", "tables", "branching", "branching / tables"
-    );
+    println!("{:<23}{:>7}{:>10}{:>11}  branching / tables", "kind", "bytes", "tables", "branching");
     print_rows(&LEX_KINDS, row);
 }
 

@@ -13,11 +13,11 @@ pub fn print() {
         "reading, ns a byte: the middle of {SAMPLES} samples; ratios: the middle, lower and upper quarter"
     );
     println!(
-        "{:<23}{:>7}{:>10}{:>10}{:>10}  {:<21}  {}",
-        "kind", "bytes", "read", "slow", "fast", "read / slow", "read / fast"
+        "{:<23}{:>7}{:>10}{:>10}{:>10}  {:<21}  read / fast",
+        "kind", "bytes", "read", "slow", "fast", "read / slow"
     );
     print_rows(&READ_KINDS, row);
-    println!("slow by what is known of the library");
+    println!("slow by what is known of the library, and by search");
     print_rows(&WORST_KINDS, row);
 }
 

@@ -50,13 +50,11 @@ const TOLD: usize = 4;
 /// A third of the time for each pantry, as names that are slow would hide all else.
 pub fn print(options: &Options) {
     println!(
-        "{:>10}{:>10}{:>10}  {:<23}  {:<23}  {}",
-        "read",
-        "scripts",
-        "fast",
-        "read / scripts",
-        "read / fast",
-        "recipe; ns a byte: the middle of samples in turn"
+        "ns a byte: the middle of samples in turn; ratios: the middle, lower and upper quarter"
+    );
+    println!(
+        "{:>10}{:>10}{:>10}  {:<24}  {:<24}  recipe",
+        "read", "scripts", "fast", "read / scripts", "read / fast"
     );
     panic::set_hook(Box::new(|_| {}));
     let share = Duration::from_secs(options.seconds) / Pantry::ALL.len() as u32;
@@ -164,7 +162,7 @@ impl Search {
             (format!("{:.1}", middle(&fast)), ratios(&read, &fast))
         };
         format!(
-            "{:>10.1}{:>10.1}{time:>10}  {:<23}  {ratio:<23}",
+            "{:>10.1}{:>10.1}{time:>10}  {:<24}  {ratio:<24}",
             middle(&read),
             middle(&scripts),
             ratios(&read, &scripts)

@@ -35,10 +35,14 @@ pub const READ_KINDS: [Kind; 16] = [
     Kind::new("reports in statements", reports_in_statements),
 ];
 
-pub const WORST_KINDS: [Kind; 3] = [
+pub const WORST_KINDS: [Kind; 7] = [
     Kind::longest("names behind the table", worst::names_behind_the_table),
+    Kind::longest("one name behind it", worst::one_name_behind_the_table),
     Kind::longest("names of one bucket", worst::names_of_one_bucket),
     Kind::longest("long decimals", worst::long_decimals),
+    Kind::longest("calls of calls", worst::calls_of_calls),
+    Kind::longest("empty blocks", worst::empty_blocks),
+    Kind::longest("blocks left open", worst::blocks_left_open),
 ];
 
 pub const LEX_KINDS: [Kind; 8] = [
@@ -175,4 +179,32 @@ fn reports(size: usize) -> String {
 fn reports_in_statements(size: usize) -> String {
     const BLOCK: &str = "init {\n    let = 1;\n    a = ;\n    f(1;\n    b c;\n}\n";
     filled(size, |_| BLOCK.to_string())
+}
+
+#[cfg(test)]
+mod tests {
+    use super::{LEX_KINDS, READ_KINDS, SIZES, WORST_KINDS, scripts::scripts, worst};
+    use std::collections::HashSet;
+
+    #[test]
+    fn texts_fill_their_sizes() {
+        for kind in READ_KINDS.iter().chain(&WORST_KINDS).chain(&LEX_KINDS) {
+            kind.sizes.iter().for_each(|size| drop(kind.text(*size)));
+        }
+    }
+
+    #[test]
+    fn scripts_are_free_of_reports() {
+        for size in SIZES {
+            let text = scripts(*size);
+            assert_eq!(oracle::read(&text).reports, [], "{text}");
+        }
+    }
+
+    #[test]
+    fn names_of_one_bucket_are_different() {
+        let names: HashSet<String> = worst::names_in_bucket().take(10_000).collect();
+        assert_eq!(names.len(), 10_000);
+        assert!(names.iter().all(|name| worst::bucket(name) == 0));
+    }
 }

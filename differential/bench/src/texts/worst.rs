@@ -1,17 +1,26 @@
-//! Texts that are slow to read by what is known of the library: its table of names ends at 32,768
+//! Texts that are slow to read. By what is known of the library: its table of names ends at 32,768
 //! tokens, its hash of a name is a sum by powers of 31 in 8,192 buckets, and a decimal takes time
-//! by the square of its length.
+//! by the square of its length. The others were found by `bench search`, and made simple.
 
 use super::{filled, within};
 use generate::KEYWORDS;
+use std::iter;
 
 const TABLE_ENTRIES: usize = 32_768;
 const BUCKETS: usize = 8_192;
 
-/// Semicolons where no declaration begins are passed one by one; behind them each name is new.
 pub fn names_behind_the_table(size: usize) -> String {
+    behind_the_table(size, (0..).map(spelled).filter(|name| is_name(name)))
+}
+
+/// Found: a name that stood already is slower than a new one, as more of it fit.
+pub fn one_name_behind_the_table(size: usize) -> String {
+    behind_the_table(size, iter::repeat_with(|| "a".to_string()))
+}
+
+/// Semicolons where no declaration begins are passed one by one.
+fn behind_the_table(size: usize, names: impl Iterator<Item = String>) -> String {
     let semicolons = ";".repeat(TABLE_ENTRIES);
-    let names = (0..).map(spelled).filter(is_name);
     let statements = statements(size - semicolons.len(), names);
     semicolons + &statements
 }
@@ -33,17 +42,39 @@ pub fn long_decimals(size: usize) -> String {
     filled(size, |i| if i % 2 == 0 { decimal.clone() } else { "const b = 1;\n".to_string() })
 }
 
+/// Found.
+pub fn calls_of_calls(size: usize) -> String {
+    within("init {a", "()", "}", size)
+}
+
+/// Found.
+pub fn empty_blocks(size: usize) -> String {
+    within("init {", "{}", "}", size)
+}
+
+/// Found. With more brackets than these it is slower still, but the reference's fuel ends.
+pub fn blocks_left_open(size: usize) -> String {
+    filled(size, |_| "run {{a,".to_string())
+}
+
 /// Different names, all in the library's bucket 0.
 pub fn names_in_bucket() -> impl Iterator<Item = String> {
-    (0..).map(spelled).filter(|name| bucket(name) == 0 && is_name(name))
+    (0..).map(spelled).filter_map(ended_in_bucket).filter(|name| is_name(name))
 }
 
-fn is_name(spelled: &String) -> bool {
-    !KEYWORDS.contains(&spelled.as_str())
+/// With the last character that leads there, if there is one.
+fn ended_in_bucket(front: String) -> Option<String> {
+    let last = (BUCKETS - bucket(&front) * 31 % BUCKETS) % BUCKETS;
+    let last = char::from(u8::try_from(last).ok()?);
+    (last.is_ascii_alphanumeric() || last == '_').then(|| format!("{front}{last}"))
 }
 
-fn bucket(name: &str) -> usize {
+pub fn bucket(name: &str) -> usize {
     name.bytes().fold(0, |hash, byte| (hash * 31 + usize::from(byte)) % BUCKETS)
+}
+
+fn is_name(spelled: &str) -> bool {
+    !KEYWORDS.contains(&spelled)
 }
 
 /// The name with this number.
