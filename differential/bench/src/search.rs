@@ -47,7 +47,7 @@ const GAIN: f64 = 1.02;
 /// So many of the climbs' ends are told for each pantry.
 const TOLD: usize = 4;
 
-/// A third of the time for each pantry, as names that are slow would hide all else.
+/// The same time for each pantry, as names that are slow would hide all else.
 pub fn print(options: &Options) {
     println!(
         "ns a byte: the middle of samples in turn; ratios: the middle, lower and upper quarter"
@@ -65,6 +65,7 @@ pub fn print(options: &Options) {
         while Instant::now() < end {
             found.push(search.climb(end));
         }
+        found.retain(|climbed| climbed.time > 0.0);
         found.sort_by(|one, other| other.time.total_cmp(&one.time));
         println!("{pantry}: {} climbs, {} texts", found.len(), search.timed);
         for climbed in found.iter().take(TOLD) {
@@ -125,7 +126,7 @@ impl Search {
         /// Seconds from which on a call is told from chance.
         const LONG: f64 = 0.03;
         self.timed += 1;
-        let text = recipe.text(&self.names, LONGEST);
+        let text = recipe.text(&self.names, self.pantry.size());
         let Some(mut slices) = self.enough.fitting(text.as_bytes()) else { return 0.0 };
         let mut shortest = f64::INFINITY;
         for _ in 0..TRIES {
@@ -139,10 +140,11 @@ impl Search {
         shortest * 1e9 / text.len() as f64
     }
 
-    /// The text is read beside scripts of its length, and beside the reference over fast stand-ins
+    /// The text is read beside scripts, and beside the reference over fast stand-ins
     /// unless that panics.
     fn beside_others(&mut self, recipe: &Recipe) -> String {
-        let (text, ordinary) = (recipe.text(&self.names, LONGEST), scripts(LONGEST));
+        let text = recipe.text(&self.names, self.pantry.size());
+        let ordinary = scripts(LONGEST);
         let mut slices = [&text, &ordinary].map(|text| Slices::for_text(text.as_bytes()));
         let [first, second] = &mut slices;
         let read = sampler(|| {

@@ -1,6 +1,9 @@
 //! What a text is made of: pieces that stand in front once, and pieces that follow over and over.
 
-use crate::texts::worst::{names_in_bucket, spelled};
+use crate::texts::{
+    LONGEST,
+    worst::{TABLE_ENTRIES, names_in_bucket, spelled},
+};
 use generate::{Rng, TOKENS};
 use std::fmt;
 
@@ -28,18 +31,27 @@ enum Piece {
 /// Of what pieces a search may take.
 #[derive(Clone, Copy, PartialEq, Eq)]
 pub enum Pantry {
+    /// Fixed pieces, and no more tokens than the library's table of names has room for.
+    Short,
     Texts,
     NewNames,
     NamesInBucket,
 }
 
 impl Pantry {
-    pub const ALL: [Pantry; 3] = [Pantry::Texts, Pantry::NewNames, Pantry::NamesInBucket];
+    pub const ALL: [Pantry; 4] =
+        [Pantry::Short, Pantry::Texts, Pantry::NewNames, Pantry::NamesInBucket];
+
+    /// The length of its texts.
+    pub fn size(self) -> usize {
+        if self == Pantry::Short { TABLE_ENTRIES - 1 } else { LONGEST }
+    }
 }
 
 impl fmt::Display for Pantry {
     fn fmt(&self, f: &mut fmt::Formatter<'_>) -> fmt::Result {
         f.write_str(match self {
+            Pantry::Short => "fixed pieces, within the table of names",
             Pantry::Texts => "fixed pieces",
             Pantry::NewNames => "and new names",
             Pantry::NamesInBucket => "and new names in one bucket",
@@ -95,7 +107,7 @@ const STRUCTURE: [&str; 44] = [
     "7f19",
 ];
 
-const TIMES: [usize; 12] = [1, 1, 1, 2, 3, 8, 30, 100, 300, 1_000, 8_000, 32_768];
+const TIMES: [usize; 12] = [1, 1, 1, 1, 2, 3, 8, 30, 100, 300, 1_000, TABLE_ENTRIES];
 
 /// A cycle has up to so many parts, the front too.
 const PARTS: usize = 8;
@@ -103,7 +115,7 @@ const PARTS: usize = 8;
 impl Piece {
     fn drawn(rng: &mut Rng, pantry: Pantry) -> Self {
         match rng.below(10) {
-            8 if pantry != Pantry::Texts => Piece::NewName,
+            8 if matches!(pantry, Pantry::NewNames | Pantry::NamesInBucket) => Piece::NewName,
             9 if pantry == Pantry::NamesInBucket => Piece::NameInBucket,
             0..6 => Piece::Text(rng.pick(&STRUCTURE)),
             _ => Piece::Text(rng.pick(TOKENS)),

@@ -6,7 +6,7 @@ use super::{filled, within};
 use generate::KEYWORDS;
 use std::iter;
 
-const TABLE_ENTRIES: usize = 32_768;
+pub const TABLE_ENTRIES: usize = 32_768;
 const BUCKETS: usize = 8_192;
 
 pub fn names_behind_the_table(size: usize) -> String {
