@@ -5,12 +5,12 @@ use mathlib.Core.List.{List}
 use Prim.Native.Nat.{ℕ, _+_, _*_, _/_, _≤_, _<_}
 use native.Mathlib.Omega.{arith}
 use lib.ListN.{length, getD, set, replicate, length-set, length-replicate}
-use Rattle.reading.specs.Source.{slotAt, entry}
+use Rattle.reading.specs.Source.{tableStart, slotAt, entry}
 use Rattle.interner.specs.Alike.{firstName}
 use Rattle.interner.specs.Order.{nameAt}
 use Rattle.interner.specs.Hash.{buckets}
 use Rattle.interner.specs.Tree.{place, Met, Tree, tree-none, tree-same, tree-more}
-use Rattle.interner.specs.Table.{Table, written, slot-low, table-skip, table-more}
+use Rattle.interner.specs.Table.{Table, written, slot-low, slot-room, table-skip, table-more}
 
 module _ (text tokens : List ℕ) where
   pub record State (source links : List ℕ) (n : ℕ) : Type 0 where
@@ -44,6 +44,9 @@ module _ (text tokens : List ℕ) where
 
       pub slot-small : (slot : ℕ) → slot ≡ slotAt tokens n → slot ≤ 32768
       slot-small slot e = let h = slot-low text tokens source n (s .told) n in let f = s .told .fits in omega arith
+
+      pub slot-fits : (slot : ℕ) → slot ≡ slotAt tokens n → tableStart + 2 * slot ≤ length source
+      slot-fits slot e = rw e (slot-room text tokens source n (s .told) n)
 
       -- The search ended at place `p`, where the link is `c`.
       module _ (p : ℕ) (ends : Ends source links n p) (c : ℕ) (is-link : c ≡ getD links p 0) (told : List ℕ) (slot : ℕ) (is-slot : slot ≡ slotAt tokens n) where

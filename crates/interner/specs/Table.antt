@@ -15,9 +15,10 @@ use Rattle.interner.specs.Same.{Inside, allInside, inside-of, spelling-s
 use Rattle.interner.specs.Alike.{both, firstName}
 use Rattle.interner.specs.Order.{nameAt, no-name, namesRise, Ordered, ordered-of}
 
--- A source has room for the longest text, and for two bytes of each name: behind each other byte of the text there may end one.
-abbrev pub sourceLength : ℕ
-sourceLength = 131072
+-- The bytes of a source for a text of so many: the table begins where the longest text ends, and has two bytes for each name; of two bytes of the
+-- text at most one ends a name.
+abbrev pub sourceLength : ℕ → ℕ
+sourceLength n = tableStart + 2 * ((n + 1) / 2)
 
 -- A source stands for a text: tokens are spelled alike in both, so the same ones are the first, and its table is right.
 pub record Annotates (source text tokens : List ℕ) : Type 0 where
@@ -27,27 +28,27 @@ pub record Annotates (source text tokens : List ℕ) : Type 0 where
 
 -- Whether a source of so many bytes can be made of a text and its tokens.
 unfoldable pub annotatable : List ℕ → List ℕ → ℕ → Bool
-annotatable text tokens size = eqb size sourceLength && (leb (length text) tableStart && (allInside tokens (length text) && namesRise tokens))
+annotatable text tokens size = leb (length text) tableStart && (leb (sourceLength (length text)) size && (allInside tokens (length text) && namesRise tokens))
 
 -- By the tests of the four, in turn.
 module _ (text tokens : List ℕ) (size : ℕ) where
-  pub other-size : (size ≡ sourceLength → ⊥) → false ≡ annotatable text tokens size
+  pub too-long : tableStart < length text → false ≡ annotatable text tokens size
   unfolding annotatable
-  other-size h = rw (ne-eqb size sourceLength h)
+  too-long l = rw (lt-leb (length text) tableStart l)
 
-  module _ (h : size ≡ sourceLength) where
-    pub too-long : tableStart < length text → false ≡ annotatable text tokens size
+  module _ (l : length text ≤ tableStart) where
+    pub too-short : size < sourceLength (length text) → false ≡ annotatable text tokens size
     unfolding annotatable
-    too-long l = rw (eq-eqb size sourceLength h, lt-leb (length text) tableStart l)
+    too-short h = rw (le-leb (length text) tableStart l, lt-leb (sourceLength (length text)) size h)
 
-    module _ (l : length text ≤ tableStart) (a : Bool) (e : a ≡ allInside tokens (length text)) where
+    module _ (h : sourceLength (length text) ≤ size) (a : Bool) (e : a ≡ allInside tokens (length text)) where
       pub some-outside : a ≡ false → false ≡ annotatable text tokens size
       unfolding annotatable
-      some-outside f = rw (eq-eqb size sourceLength h, le-leb (length text) tableStart l, ← e, f)
+      some-outside f = rw (le-leb (length text) tableStart l, le-leb (sourceLength (length text)) size h, ← e, f)
 
       pub by-names : a ≡ true → (b : Bool) → b ≡ namesRise tokens → b ≡ annotatable text tokens size
       unfolding annotatable
-      by-names f b g = rw (eq-eqb size sourceLength h, le-leb (length text) tableStart l, ← e, f) g
+      by-names f b g = rw (le-leb (length text) tableStart l, le-leb (sourceLength (length text)) size h, ← e, f) g
 
 unfoldable pub written : List ℕ → ℕ → ℕ → List ℕ
 written source slot first = set (set source (65534 + 2 * slot) (first % 256)) (65535 + 2 * slot) (first / 256)
@@ -66,7 +67,7 @@ module _ (source : List ℕ) (slot first : ℕ) where
   entry-other s h =
       rw (byte-other (65534 + 2 * s) (λ e. h (omega arith)) (λ e. absurd (omega arith)), byte-other (65535 + 2 * s) (λ e. absurd (omega arith)) (λ e. h (omega arith)))
 
-  module _ (l : length source ≡ sourceLength) (some : 0 < slot) (h : slot ≤ 32768) where
+  module _ (some : 0 < slot) (h : tableStart + 2 * slot ≤ length source) where
     pub take-written : (n : ℕ) → n ≤ tableStart → take n (written source slot first) ≡ take n source
     unfolding written
     take-written n m = take-set-le n _ _ _ (omega arith) ∙ take-set-le n _ _ _ (omega arith)
@@ -82,7 +83,7 @@ module _ (source : List ℕ) (slot first : ℕ) where
 
 -- A source that begins with the text, and whose table is right for the names before token `n`.
 pub record Table (text tokens source : List ℕ) (n : ℕ) : Type 0 where
-  pub long : length source ≡ sourceLength
+  pub long : sourceLength (length text) ≤ length source
   pub fits : length text ≤ tableStart
   pub begins : take (length text) source ≡ text
   pub inside : Inside tokens (length text)
@@ -90,13 +91,16 @@ pub record Table (text tokens source : List ℕ) (n : ℕ) : Type 0 where
   pub right : (j : ℕ) → j < n → nameAt tokens j ≡ true → entry source (slotAt tokens j) ≡ firstName text tokens j
 
 -- Before the first token nothing is told of.
-pub table-none : (text tokens source : List ℕ) → length source ≡ sourceLength → length text ≤ tableStart → take (length text) source ≡ text
+pub table-none : (text tokens source : List ℕ) → sourceLength (length text) ≤ length source → length text ≤ tableStart → take (length text) source ≡ text
     → allInside tokens (length text) ≡ true → namesRise tokens ≡ true → Table text tokens source 0
 table-none text tokens source l f b e g = record { long = l; fits = f; begins = b; inside = inside-of tokens (length text) e; order = ordered-of tokens g; right = λ j h. absurd (omega arith) }
 
 module _ (text tokens source : List ℕ) (n : ℕ) (t : Table text tokens source n) where
   pub slot-low : (j : ℕ) → 2 * slotAt tokens j ≤ length text + 1
   slot-low j = let h = t .inside j in omega arith
+
+  pub slot-room : (j : ℕ) → tableStart + 2 * slotAt tokens j ≤ length source
+  slot-room j = let h = slot-low j in let l = t .long in omega arith
 
   -- A token that is no name needs nothing in the table.
   pub table-skip : nameAt tokens n ≡ false → Table text tokens source (n + 1)
@@ -112,9 +116,9 @@ module _ (text tokens source : List ℕ) (n : ℕ) (t : Table text tokens source
   pub table-more : (first : ℕ) → nameAt tokens n ≡ true → first ≡ firstName text tokens n → Table text tokens (written source (slotAt tokens n) first) (n + 1)
   table-more first name e =
       record {
-        long = length-written source (slotAt tokens n) first ∙ t .long;
+        long = rw (length-written source (slotAt tokens n) first) (t .long);
         fits = t .fits;
-        begins = take-written source (slotAt tokens n) first (t .long) some low (length text) (t .fits) ∙ t .begins;
+        begins = take-written source (slotAt tokens n) first some (slot-room n) (length text) (t .fits) ∙ t .begins;
         inside = t .inside;
         order = t .order;
         right = right;
@@ -123,14 +127,11 @@ module _ (text tokens source : List ℕ) (n : ℕ) (t : Table text tokens source
       some : 0 < slotAt tokens n
       some = t .order .some n name
 
-      low : slotAt tokens n ≤ 32768
-      low = let h = slot-low n in let f = t .fits in omega arith
-
       right : (j : ℕ) → j < n + 1 → nameAt tokens j ≡ true → entry (written source (slotAt tokens n) first) (slotAt tokens j) ≡ firstName text tokens j
       right j h f = go (eqb j n) refl
         where
           go : (b : Bool) → eqb j n ≡ b → entry (written source (slotAt tokens n) first) (slotAt tokens j) ≡ firstName text tokens j
-          go true q = let z : j ≡ n = eqb-true j n q in rw z (entry-same source (slotAt tokens n) first (t .long) some low ∙ e)
+          go true q = let z : j ≡ n = eqb-true j n q in rw z (entry-same source (slotAt tokens n) first some (slot-room n) ∙ e)
           go false q =
               let l : j < n = omega (arith, eqb-false j n q) in
               let a = t .order .apart j n l f name in

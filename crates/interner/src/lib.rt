@@ -12,8 +12,13 @@ ghost use Rattle.interner.specs.Table.{Annotates, annotatable};
 mod table;
 mod trees;
 
-// The bytes of a source that has a table.
+// The bytes of a source for any text.
 pub const SOURCE_BYTES: usize = 131072;
+
+// The most bytes of a short text, and the bytes of a source for it: less is cleared first.
+pub const SHORT_TEXT: usize = 8192;
+
+pub const SHORT_SOURCE_BYTES: usize = 73728;
 
 // Whether there is a table, and token `i` is a name of this kind.
 fn told(source: &[u8], tokens: &[u32], kind: u32, i: usize) -> bool
@@ -89,14 +94,14 @@ fn copy(text: &[u8], source: &mut [u8])
 }
 
 // The source of a text and its tokens: the text, and the table of its names. It answers false, and leaves what it was lent, where the
-// source has another length than a source has, the text is longer than any, a token ends past it, or names share a place in the table.
+// text is longer than any, the source has no room for it, a token ends past it, or names share a place in the table.
 pub fn annotate(text: &[u8], tokens: &[u32], source: &mut [u8]) -> bool
     ensures { λ r. ⌜ (r ≡ annotatable (now (text .entry)) (now (tokens .entry)) (length (now (source .entry)))) × (r ≡ true → Annotates (now (source .exit)) (now (text .entry)) (now (tokens .entry))) × (r ≡ false → now (source .exit) ≡ now (source .entry)) ⌝ }
 {
-    if source.len() != SOURCE_BYTES {
+    if table::START < text.len() {
         return false;
     }
-    if table::START < text.len() {
+    if source.len() < table::START + 2 * ((text.len() + 1) / 2) {
         return false;
     }
     if ends_inside(tokens, text.len()) {

@@ -1,9 +1,9 @@
 // The table of names behind the text: two bytes for each name, the low one first.
 ghost use mathlib.Core.Path.{_≡_};
-ghost use Prim.Native.Nat.{_≤_, _<_};
+ghost use Prim.Native.Nat.{_+_, _*_, _≤_, _<_};
 ghost use lib.ListN.{length, getD};
-ghost use Rattle.reading.specs.Source.{slotAt, entry, isName};
-ghost use Rattle.interner.specs.Table.{sourceLength, written};
+ghost use Rattle.reading.specs.Source.{tableStart, slotAt, entry, isName};
+ghost use Rattle.interner.specs.Table.{written};
 use words::token;
 
 // No text has more bytes, so the table begins there.
@@ -55,7 +55,7 @@ pub(crate) fn get(source: &[u8], slot: usize) -> usize
 
 // The table is told of the name at a place.
 pub(crate) fn put(source: &mut [u8], slot: usize, first: usize)
-    requires { ⌜ (length (now source) ≡ sourceLength) × (slot ≤ 32768) × (first < 65536) ⌝ }
+    requires { ⌜ (tableStart + 2 * slot ≤ length (now source)) × (slot ≤ 32768) × (first < 65536) ⌝ }
     ensures { λ _. ⌜ now (source .exit) ≡ written (now (source .entry)) slot first ⌝ }
 {
     let at = 2 * slot;

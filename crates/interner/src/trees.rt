@@ -13,9 +13,6 @@ use crate::table;
 
 const BUCKETS: usize = 8192;
 
-// The bytes of a short text.
-const SHORT: usize = 8192;
-
 fn wide(n: u16) -> usize
     ensures { λ r. ⌜ r ≡ n ⌝ }
 {
@@ -124,7 +121,7 @@ fn few(text: &[u8], tokens: &[u32], source: &mut [u8])
     requires { ⌜ Table (now text) (now tokens) (now source) 0 ⌝ }
     ensures { λ _. ⌜ Table (now (text .entry)) (now (tokens .entry)) (now (source .exit)) (length (now (tokens .entry))) ⌝ }
 {
-    let mut links = [0u16; BUCKETS + SHORT];
+    let mut links = [0u16; BUCKETS + crate::SHORT_TEXT];
     fill(text, tokens, source, &mut links);
 }
 
@@ -141,7 +138,7 @@ pub(crate) fn tell(text: &[u8], tokens: &[u32], source: &mut [u8])
     requires { ⌜ Table (now text) (now tokens) (now source) 0 ⌝ }
     ensures { λ _. ⌜ Table (now (text .entry)) (now (tokens .entry)) (now (source .exit)) (length (now (tokens .entry))) ⌝ }
 {
-    if text.len() <= SHORT {
+    if text.len() <= crate::SHORT_TEXT {
         few(text, tokens, source);
         return;
     }

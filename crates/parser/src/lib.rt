@@ -1,10 +1,12 @@
 // The parser as a whole. `parse` is no public call: reading begins with the crate plank.
 ghost use mathlib.Core.Path.{_≡_};
+ghost use mathlib.Core.Bool.{true};
 ghost use Prim.Native.Nat.{_≤_};
 ghost use lib.ListN.{length};
 ghost use Rattle.definition.specs.Prog.{memory};
 ghost use Rattle.definition.specs.Parse.{tokenLimit, parsed};
 ghost use Rattle.reading.specs.Source.{Right};
+ghost use Rattle.interner.specs.Table.{Annotates};
 ghost use Rattle.parser.specs.Answers.{given, zeroed, begun, parsedText};
 use declarations::parse_file;
 use definition::Cursor;
@@ -90,7 +92,43 @@ fn parse_source(
     Parsed::Counts(state.nodes, state.values, state.reports)
 }
 
+// The source is parsed where one was made of the text, else the text itself.
+fn parse_annotated(
+    made: bool,
+    source: &[u8],
+    text: &[u8],
+    tokens: &[u32],
+    nodes: &mut [u32],
+    values: &mut [u32],
+    reports: &mut [u32],
+) -> Parsed
+    requires { ⌜ (length (now text) ≤ 65536) × (made ≡ true → Annotates (now source) (now text) (now tokens)) ⌝ }
+    ensures { λ r. ⌜ given r (memory (now (nodes .exit)) (now (values .exit)) (now (reports .exit))) ≡ parsed (now (text .entry)) (now (tokens .entry)) (length (now (nodes .entry))) (length (now (values .entry))) (length (now (reports .entry))) ⌝ }
+{
+    if made {
+        return parse_source(source, tokens, nodes, values, reports);
+    }
+    parse_source(text, tokens, nodes, values, reports)
+}
+
 // A table of names is made first, so that each name is looked up in one step.
+fn parse_short(
+    text: &[u8],
+    tokens: &[u32],
+    nodes: &mut [u32],
+    values: &mut [u32],
+    reports: &mut [u32],
+) -> Parsed
+    requires { ⌜ length (now text) ≤ 65536 ⌝ }
+    ensures { λ r. ⌜ given r (memory (now (nodes .exit)) (now (values .exit)) (now (reports .exit))) ≡ parsed (now (text .entry)) (now (tokens .entry)) (length (now (nodes .entry))) (length (now (values .entry))) (length (now (reports .entry))) ⌝ }
+{
+    let mut source = [0u8; interner::SHORT_SOURCE_BYTES];
+    let made = interner::annotate(text, tokens, &mut source);
+    parse_annotated(made, &source, text, tokens, nodes, values, reports)
+}
+
+// The same with a source for any text. As `annotate` is called from two places it stays a function of its own, and what it fills lies
+// on the stack no longer while the text is parsed.
 fn parse_long(
     text: &[u8],
     tokens: &[u32],
@@ -102,10 +140,8 @@ fn parse_long(
     ensures { λ r. ⌜ given r (memory (now (nodes .exit)) (now (values .exit)) (now (reports .exit))) ≡ parsed (now (text .entry)) (now (tokens .entry)) (length (now (nodes .entry))) (length (now (values .entry))) (length (now (reports .entry))) ⌝ }
 {
     let mut source = [0u8; interner::SOURCE_BYTES];
-    if interner::annotate(text, tokens, &mut source) {
-        return parse_source(&source, tokens, nodes, values, reports);
-    }
-    parse_source(text, tokens, nodes, values, reports)
+    let made = interner::annotate(text, tokens, &mut source);
+    parse_annotated(made, &source, text, tokens, nodes, values, reports)
 }
 
 // A text and its token words to nodes, values and reports; the rest of each slice is 0, and all of it on refusal. The token words
@@ -127,6 +163,9 @@ pub fn parse(
     }
     if tokens.len() <= FEW_TOKENS {
         return parse_source(text, tokens, nodes, values, reports);
+    }
+    if text.len() <= interner::SHORT_TEXT {
+        return parse_short(text, tokens, nodes, values, reports);
     }
     parse_long(text, tokens, nodes, values, reports)
 }

@@ -1,16 +1,26 @@
 -- `annotate` meets its contract, by case.
 use mathlib.Core.Path.{refl, sym, _∙_}
 use mathlib.Core.Bool.{true≢false, false≢true}
-use Rattle.interner.specs.Table.{table-none, annotates, other-size, too-long, some-outside, by-names}
+use Rattle.interner.specs.Table.{table-none, annotates, too-long, too-short, some-outside, by-names}
+use native.Mathlib.Omega.{arith}
 use borrow.Author.Needs.{needs}
 use Rattle.interner.proofs.annotate.Statement.{statement}
 use Rattle.interner.proofs.annotate.Tie as tie
 
 returns : tie.Need-returns
-returns c = (other-size _ _ _ (c .if1 .taken), (λ e. absurd (false≢true e)), (λ e. refl))
+returns c = (too-long _ _ _ (c .if1 .taken), (λ e. absurd (false≢true e)), (λ e. refl))
+
+add-if2 : tie.Need-add-if2
+add-if2 c = search needs
+
+mul-if2 : tie.Need-mul-if2
+mul-if2 c = search needs
+
+add-if2-2 : tie.Need-add-if2-2
+add-if2-2 c = search needs
 
 returns-2 : tie.Need-returns-2
-returns-2 c = (too-long _ _ _ (c .before .if1 .left) (c .if2 .taken), (λ e. absurd (false≢true e)), (λ e. refl))
+returns-2 c = (too-short _ _ _ (c .before .if1 .left) (c .if2 .taken), (λ e. absurd (false≢true e)), (λ e. refl))
 
 ends-inside-requires : tie.Need-ends-inside-requires
 ends-inside-requires c κs = search needs
@@ -29,7 +39,7 @@ tell-requires c κs =
     let at-if3 = at-names-rise .before in
     let at-ends-inside = at-if3 .before in
     let at-if2 = at-ends-inside .before in
-    table-none _ _ _ (at-copy .copy .kept .1 .0 ∙ at-if2 .before .if1 .left) (at-if2 .if2 .left) (at-copy .copy .ensures)
+    table-none _ _ _ (omega (arith, at-copy .copy .kept .1 .0, at-if2 .if2 .left)) (at-if2 .before .if1 .left) (at-copy .copy .ensures)
     (sym (at-ends-inside .ends-inside .ensures) ∙ at-if3 .if3 .taken) (sym (at-names-rise .names-rise .ensures) ∙ at-if4 .if4 .taken)
 
 same-length : tie.Need-same-length
@@ -76,6 +86,9 @@ annotate-spec =
     tie.close
     (tie.spec
     returns
+    add-if2
+    mul-if2
+    add-if2-2
     returns-2
     ends-inside-requires
     names-rise-requires

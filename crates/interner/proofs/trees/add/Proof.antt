@@ -1,7 +1,9 @@
 -- `add` meets its contract: the state has one name more.
-use Prim.Native.Nat.{_≤_}
+use Prim.Native.Nat.{_+_, _*_, _≤_}
 use native.Mathlib.Omega.{arith}
-use Rattle.interner.specs.State.{number-small, slot-small, first-small, state-new, state-old}
+use lib.ListN.{length}
+use Rattle.reading.specs.Source.{tableStart}
+use Rattle.interner.specs.State.{number-small, slot-small, slot-fits, first-small, state-new, state-old}
 use borrow.Author.Needs.{needs}
 use Rattle.interner.proofs.trees.add.Statement.{statement}
 use Rattle.interner.proofs.trees.add.Tie as tie
@@ -11,6 +13,9 @@ start c = c .before .before .before .before .before
 
 small : (c : tie.After-slot-at) → c .slot-at .result ≤ 32768
 small c = slot-small _ _ _ _ _ (start c .pre .1) (start c .pre .0 .1) _ (c .slot-at .ensures .0)
+
+room : (c : tie.After-slot-at) → tableStart + 2 * c .slot-at .result ≤ length (start c .args .source .now)
+room c = slot-fits _ _ _ _ _ (start c .pre .1) (start c .pre .0 .1) _ (c .slot-at .ensures .0)
 
 slot-at-requires : tie.Need-slot-at-requires
 slot-at-requires c κs = search needs
@@ -43,7 +48,7 @@ put-requires c κs =
     let at-search = c .before .before .before .before in
     let at-slot-at = at-search .before .before .before in
     let at-start = start at-slot-at in
-    (at-start .pre .1 .told .long, small at-slot-at, number-small _ _ _ _ _ (at-start .pre .1) (at-start .pre .0 .1))
+    (room at-slot-at, small at-slot-at, number-small _ _ _ _ _ (at-start .pre .1) (at-start .pre .0 .1))
 
 same-length : tie.Need-same-length
 same-length c = search needs
@@ -75,7 +80,7 @@ put-requires-2 c κs =
     let at-search = at-wide .before .before in
     let at-slot-at = at-search .before .before .before in
     let at-start = start at-slot-at in (
-      at-start .pre .1 .told .long,
+      room at-slot-at,
       small at-slot-at,
       first-small _ _ _ _ _ (at-start .pre .1) (at-start .pre .0 .1) _ (at-search .search .ensures) _ (at-wide .wide .ensures) (at-start .args .source .now) _
           (at-slot-at .slot-at .ensures .0) (at-if1 .if1 .left) _ (at-get .get .ensures),
