@@ -63,7 +63,8 @@ add-value c =
 
 mul-unit : tie.Need-mul-unit Inv-loop μ-loop
 mul-unit c =
-    let at-if1 = c .before .before .before .before .before in
+    let at-digit-of = c .before .before .before in
+    let at-if1 = at-digit-of .before .before in
     let at-loop = at-if1 .before .before in
     let at-pre = at-loop .before .before in
     omega (arith, unit-fits _ (at-pre .pre) _ _ _ _ _ (at-loop .loop .inv) (at-if1 .if1 .left))

@@ -14,6 +14,17 @@ Inv-loop source prefix radix room₀ fours n₀ i₀ room n i = (n₀ ≤ n) × 
 abbrev μ-loop : tie.MeasureT-loop
 μ-loop source prefix radix room₀ fours n₀ i₀ room n i = length source - i
 
+-- At the loop's head, over the words that the caller lent.
+there : (c : tie.At-loop Inv-loop μ-loop) →
+    let at-count = c .before .before in
+    let at-put-fours = at-count .before .before .before .before in
+    let at-args = at-put-fours .before .before .before .before in
+    Digits (at-args .args .radix) (at-args .args .source .now) (at-args .args .prefix) (at-args .args .room .now) (c .loop .room) (c .loop .n) (c .loop .i)
+there c =
+    let at-count = c .before .before in
+    let at-put-fours = at-count .before .before .before .before in
+    digits-there _ _ _ _ _ _ _ (rw (at-count .count .given .1) at (at-put-fours .put-fours .ensures)) _ _ _ (c .loop .inv .0) (c .loop .inv .1)
+
 put-fours-requires : tie.Need-put-fours-requires Inv-loop μ-loop
 put-fours-requires c κs = search needs
 
@@ -48,7 +59,9 @@ enum-known-m c = search needs
 
 loop-less : tie.Need-loop-less Inv-loop μ-loop
 loop-less c =
-    let at-chunk-at = c .before .before .before .before .before .before .before in
+    let at-m = c .before in
+    let at-push = at-m .before .before .before .before in
+    let at-chunk-at = at-push .before .before in
     omega (arith, at-chunk-at .chunk-at .ensures .past (at-chunk-at .before .loop-test .taken))
 
 loop-again : tie.Need-loop-again Inv-loop μ-loop
@@ -57,7 +70,8 @@ loop-again c =
     let at-push = at-m .before .before .before .before in
     let at-chunk-at = at-push .before .before in
     let at-loop = at-chunk-at .before .before in
-    let at-put-fours = at-loop .before .before .before .before .before .before in
+    let at-count = at-loop .before .before in
+    let at-put-fours = at-count .before .before .before .before in
     let at-pre = at-put-fours .before .before .before .before in
     let more =
     digits-more _ _ _ _ _ _ _ (at-loop .loop .inv .1) (omega (arith, at-pre .pre .0)) _ _ _
@@ -71,12 +85,7 @@ same-length-2 : tie.Need-same-length-2 Inv-loop μ-loop
 same-length-2 c =
     let at-room2 = c .before .before .before in
     let at-chunk-at = at-room2 .before .before .before in
-    let at-loop = at-chunk-at .before .before in
-    let at-count = at-loop .before .before in
-    let at-put-fours = at-count .before .before .before .before in
-    let begun = rw (at-count .count .given .1) at (at-put-fours .put-fours .ensures) in
-    let there = digits-there _ _ _ _ _ _ _ begun _ _ _ (at-loop .loop .inv .0) (at-loop .loop .inv .1) in
-    at-room2 .room2 .given ∙ room-length _ _ _ _ _ _ _ there
+    at-room2 .room2 .given ∙ room-length _ _ _ _ _ _ _ (there (at-chunk-at .before .before))
 
 returns-2 : tie.Need-returns-2 Inv-loop μ-loop
 returns-2 c =
@@ -85,29 +94,15 @@ returns-2 c =
     let at-loop = at-chunk-at .before .before in
     let at-count = at-loop .before .before in
     let at-put-fours = at-count .before .before .before .before in
-    let begun = rw (at-count .count .given .1) at (at-put-fours .put-fours .ensures) in
-    let there = digits-there _ _ _ _ _ _ _ begun _ _ _ (at-loop .loop .inv .0) (at-loop .loop .inv .1) in
     let at-pre = at-put-fours .before .before .before .before in
-    digits-full _ _ _ _ _ _ _ there (omega (arith, at-pre .pre .0)) _ _ _
+    digits-full _ _ _ _ _ _ _ (there at-loop) (omega (arith, at-pre .pre .0)) _ _ _
     (record { value = _; unit = _; chunk = at-chunk-at .chunk-at .ensures; pushed = at-push .push .ensures }) (c .enum-told2 .given .1)
 
 same-length-3 : tie.Need-same-length-3 Inv-loop μ-loop
-same-length-3 c =
-    let at-loop = c .before in
-    let at-count = at-loop .before .before in
-    let at-put-fours = at-count .before .before .before .before in
-    let begun = rw (at-count .count .given .1) at (at-put-fours .put-fours .ensures) in
-    let there = digits-there _ _ _ _ _ _ _ begun _ _ _ (at-loop .loop .inv .0) (at-loop .loop .inv .1) in
-    room-length _ _ _ _ _ _ _ there
+same-length-3 c = room-length _ _ _ _ _ _ _ (there (c .before))
 
 returns-3 : tie.Need-returns-3 Inv-loop μ-loop
-returns-3 c =
-    let at-loop = c .before in
-    let at-count = at-loop .before .before in
-    let at-put-fours = at-count .before .before .before .before in
-    let begun = rw (at-count .count .given .1) at (at-put-fours .put-fours .ensures) in
-    let there = digits-there _ _ _ _ _ _ _ begun _ _ _ (at-loop .loop .inv .0) (at-loop .loop .inv .1) in
-    digits-last _ _ _ _ _ _ _ there (c .loop-test .left)
+returns-3 c = digits-last _ _ _ _ _ _ _ (there (c .before)) (c .loop-test .left)
 
 pub put-chunks-spec : {M : Type 1} → statement M
 put-chunks-spec =

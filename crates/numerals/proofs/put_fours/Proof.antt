@@ -37,7 +37,8 @@ enum-known-count c = search needs
 
 loop-less : tie.Need-loop-less Inv-loop μ-loop
 loop-less c =
-    let at-take-four = c .before .before .before .before .before in
+    let at-count = c .before in
+    let at-take-four = at-count .before .before .before .before in
     let at-loop-test = at-take-four .before .before .before in
     omega (arith, at-take-four .take-four .ensures .chunk .past (at-loop-test .loop-test .taken))
 
@@ -56,7 +57,8 @@ enum-told c = search needs
 same-length-2 : tie.Need-same-length-2 Inv-loop μ-loop
 same-length-2 c =
     let at-room = c .before .before .before in
-    let at-loop = at-room .before .before .before .before .before in
+    let at-take-four = at-room .before in
+    let at-loop = at-take-four .before .before .before .before in
     at-room .room .given ∙ room-length _ _ _ _ _ _ _ (at-loop .loop .inv)
 
 returns-2 : tie.Need-returns-2 Inv-loop μ-loop

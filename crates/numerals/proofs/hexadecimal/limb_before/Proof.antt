@@ -78,7 +78,8 @@ add-value c =
 
 mul-unit : tie.Need-mul-unit Inv-loop μ-loop
 mul-unit c =
-    let at-loop = c .before .before .before .before .before .before .before .before in
+    let at-nibble = c .before .before .before .before in
+    let at-loop = at-nibble .before .before .before .before in
     let at-pre = at-loop .before .before in
     omega (arith, unit-fits _ _ _ (at-pre .pre) _ _ _ (at-loop .loop .inv))
 
