@@ -14,6 +14,10 @@ use Rattle.literals.specs.Numbers.{nibble, digits}
 abbrev pub Radix : ℕ → Type 0
 Radix radix = (1 < radix) × (radix ≤ 16)
 
+-- The byte at `i`, and those behind it.
+pub from-byte : (source : List ℕ) (i c : ℕ) → c ≡ getD source i 0 → i < length source → drop i source ≡ c ∷ drop (i + 1) source
+from-byte source i c e h = rw (e, add-one) (drop-cons source i 0 h)
+
 module _ (radix n b : ℕ) (s : List ℕ) where
   pub digits-some : (d : ℕ) → nibble b ≡ some d → digits radix n (b ∷ s) ≡ digits radix (n * radix + d) s
   unfolding digits
@@ -77,13 +81,10 @@ module _ (radix : ℕ) (ok : Radix radix) (source : List ℕ) (i : ℕ) where
     unit-fits h = omega (arith, mul-le-mul-left unit (ok .1))
 
     module _ (c : ℕ) (ec : c ≡ getD source j 0) (h : j < length source) where
-      at-next : drop j source ≡ c ∷ drop (j + 1) source
-      at-next = rw (ec, add-one) (drop-cons source j 0 h)
-
       pub chunked-none : none ≡ nibble c → Chunked radix source i value unit (j + 1)
       chunked-none e =
           record {
-            same = λ n. t .same n ∙ (rw at-next (digits-pass radix (n * unit + value) c (drop (j + 1) source) (sym e)));
+            same = λ n. t .same n ∙ (rw (from-byte source j c ec h) (digits-pass radix (n * unit + value) c (drop (j + 1) source) (sym e)));
             small = t .small;
             on = omega (arith, t .on);
             first = λ f. absurd (omega (arith, t .on));
@@ -94,7 +95,7 @@ module _ (radix : ℕ) (ok : Radix radix) (source : List ℕ) (i : ℕ) where
           record {
             same = λ n.
                 let f : (n * unit + value) * radix + d ≡ n * (unit * radix) + (value * radix + d) = omega arith in
-                t .same n ∙ (rw at-next (digits-some radix (n * unit + value) c (drop (j + 1) source) d (sym e)) ∙ ap (λ (m : ℕ). digits radix m (drop (j + 1) source)) f);
+                t .same n ∙ (rw (from-byte source j c ec h) (digits-some radix (n * unit + value) c (drop (j + 1) source) d (sym e)) ∙ ap (λ (m : ℕ). digits radix m (drop (j + 1) source)) f);
             small =
                 let more : d * (radix - 1) ≤ 15 * (radix - 1) = mul-le-mul-right (radix - 1) (omega arith) in
                 let r : radix - 1 + 1 ≡ radix = omega (arith, ok .0) in

@@ -7,12 +7,12 @@ use native.Mathlib.Omega.{arith}
 use native.Mathlib.Nat.{mul-le-mul-right}
 use native.Mathlib.Numerals.{add-one}
 use lib.ListN.{length, getD, take, drop, set, length-append, length-set, drop-of-length-le, take-append-drop}
-use lib.Seq.{length-take-le, getD-take, take-all, take-suc, take-suc-set, drop-set-lt, drop-cons, drop-append-le, drop-drop, append-snoc}
+use lib.Seq.{length-take-le, getD-take, take-all, take-suc, take-suc-set, drop-set-lt, drop-append-le, drop-drop, append-snoc}
 use Rattle.literals.specs.Numbers.{limbBase, limbs, nibble, digits}
 use Rattle.values.specs.declared.Count.the-variants.{Words}
 use Rattle.numerals.specs.Limbs.{limbs-zero, limbs-more}
 use Rattle.values.specs.Kept.{Put}
-use Rattle.numerals.specs.Chunks.{digits-some, digits-pass}
+use Rattle.numerals.specs.Chunks.{from-byte, digits-some, digits-pass}
 
 -- ---- the number before a byte
 
@@ -62,7 +62,7 @@ digits-over n (b ∷ s) = go (nibble b) (λ m. digits-over m s)
     go (some d) ih = omega (arith, ih (n * 16 + d))
     go none ih = ih n
 
--- The digits from byte `i` on make the number, and as many of them as there are make one that isn't 0.
+-- The digits from byte `i` on make the whole number, and those up to any byte behind it make one that isn't 0.
 pub record Leading (source : List ℕ) (prefix i : ℕ) : Type 0 where
   pub same : digits 16 0 (drop i source) ≡ digits 16 0 (drop prefix source)
   pub some : (end : ℕ) → i < end → end ≤ length source → 0 < before source i end
@@ -72,17 +72,14 @@ module _ (source : List ℕ) (prefix i : ℕ) (e : digits 16 0 (drop i source) �
   leading-none h = record { same = e; some = λ end g k. absurd (omega arith) }
 
   module _ (c : ℕ) (ec : c ≡ getD source i 0) (h : i < length source) where
-    at-next : drop i source ≡ c ∷ drop (i + 1) source
-    at-next = rw (ec, add-one) (drop-cons source i 0 h)
-
     pub leading-pass : none ≡ nibble c → digits 16 0 (drop (i + 1) source) ≡ digits 16 0 (drop prefix source)
-    leading-pass f = sym (digits-pass 16 0 c (drop (i + 1) source) (sym f)) ∙ (rw at-next at e)
+    leading-pass f = sym (digits-pass 16 0 c (drop (i + 1) source) (sym f)) ∙ (rw (from-byte source i c ec h) at e)
 
     module _ (d : ℕ) (f : some d ≡ nibble c) where
       pub leading-zero : d ≡ 0 → digits 16 0 (drop (i + 1) source) ≡ digits 16 0 (drop prefix source)
       leading-zero z =
           let q : 0 * 16 + d ≡ 0 = omega arith in
-          sym (digits-some 16 0 c (drop (i + 1) source) d (sym f) ∙ rw q) ∙ (rw at-next at e)
+          sym (digits-some 16 0 c (drop (i + 1) source) d (sym f) ∙ rw q) ∙ (rw (from-byte source i c ec h) at e)
 
       pub leading-found : (d ≡ 0 → ⊥) → Leading source prefix i
       leading-found z =
@@ -90,8 +87,8 @@ module _ (source : List ℕ) (prefix i : ℕ) (e : digits 16 0 (drop i source) �
             same = e;
             some = λ end g k.
                 let l : i < length (take end source) = omega (arith, length-take-le end source k) in
-                let q : drop i (take end source) ≡ c ∷ drop (suc i) (take end source) = drop-cons (take end source) i 0 l ∙ rw (getD-take end source i 0 g, ← ec) in
-                rw (q, digits-some 16 0 c (drop (suc i) (take end source)) d (sym f)) (omega (arith, z, digits-over (0 * 16 + d) (drop (suc i) (take end source))));
+                let q : drop i (take end source) ≡ c ∷ drop (i + 1) (take end source) = from-byte (take end source) i c (ec ∙ sym (getD-take end source i 0 g)) l in
+                rw (q, digits-some 16 0 c (drop (i + 1) (take end source)) d (sym f)) (omega (arith, z, digits-over (0 * 16 + d) (drop (i + 1) (take end source))));
           }
 
 -- ---- a limb, from the digits before a byte

@@ -20,7 +20,7 @@ module _ (radix : ℕ) (pos : 0 < radix) where
   limbs-grow n d =
       omega (arith, ap length (limbs-times radix pos n d), length-append (multiplied radix d (limbs n)) (limbs (carried radix d (limbs n))), multiplied-length radix d (limbs n))
 
-  pub digits-grow : (n : ℕ) (s : List ℕ) → length (limbs n) ≤ length (limbs (digits radix n s))
+  digits-grow : (n : ℕ) (s : List ℕ) → length (limbs n) ≤ length (limbs (digits radix n s))
   unfolding digits
   digits-grow n [] = omega arith
   digits-grow n (b ∷ s) = go (nibble b) (λ m. digits-grow m s)
@@ -31,7 +31,7 @@ module _ (radix : ℕ) (pos : 0 < radix) where
       go none ih = ih n
 
 -- What comes behind words that were put in front.
-pub dropped-more : (ls lent : List ℕ) (n m : ℕ) → length ls ≡ n → n ≤ m → drop m (ls ++ drop n lent) ≡ drop m lent
+dropped-more : (ls lent : List ℕ) (n m : ℕ) → length ls ≡ n → n ≤ m → drop m (ls ++ drop n lent) ≡ drop m lent
 dropped-more ls lent n m e h =
     let k : m ≡ length ls + (m - n) = omega arith in
     let j : n + (m - n) ≡ m = omega arith in
@@ -52,11 +52,11 @@ module _ (v : ℕ) (lent : List ℕ) (r : Count) (room : List ℕ) (t : Put (lim
     pub put-fits : n ≤ length room
     put-fits = omega (arith, put-length, put .1)
 
-    pub put-behind : (m : ℕ) → n ≤ m → drop m room ≡ drop m lent
+    put-behind : (m : ℕ) → n ≤ m → drop m room ≡ drop m lent
     put-behind m g = rw (put .2) (dropped-more (limbs v) lent n m (sym (put .0)) g)
 
     -- What is put over it is put in front of the same words.
-    pub put-over : (ws : List ℕ) (m : ℕ) (out : List ℕ) → n ≤ m → Put ws room (Words m) out → Put ws lent (Words m) out
+    put-over : (ws : List ℕ) (m : ℕ) (out : List ℕ) → n ≤ m → Put ws room (Words m) out → Put ws lent (Words m) out
     put-over ws m out g q = (q .0, omega (arith, q .1, put-length), q .2 ∙ ap (λ (l : List ℕ). ws ++ l) (put-behind m g))
 
     module _ (unit value : ℕ) (pos : 0 < unit) where
@@ -79,6 +79,7 @@ pub record Takes (radix : ℕ) (source : List ℕ) (i : ℕ) (room : List ℕ) (
   pub chunk : Chunk radix source i value unit j
   pub pushed : Pushed unit value room n r out
 
+-- The number so far, whose limbs were put in front, and the digits that are left.
 pub record Digits (radix : ℕ) (source : List ℕ) (prefix : ℕ) (lent room : List ℕ) (n i : ℕ) : Type 0 where
   pub value : ℕ
   pub left : digits radix value (drop i source) ≡ digits radix 0 (drop prefix source)
