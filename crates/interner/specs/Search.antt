@@ -2,7 +2,7 @@
 use mathlib.Core.Path.{_≡_, refl, sym, _∙_, ap}
 use mathlib.Core.Bool.{Bool, true, false, cond, _&&_, _||_, true≢false}
 use mathlib.Core.List.{List, []}
-use Prim.Native.Nat.{ℕ, zero, suc, _+_, _-_, _*_, _/_, _%_, _≤_, _<_}
+use Prim.Native.Nat.{ℕ, zero, suc, _+_, _*_, _/_, _%_, _≤_, _<_}
 use native.Mathlib.Omega.{arith}
 use native.Mathlib.Numerals.{add-one}
 use borrow.Author.Count.{below-more}
@@ -18,9 +18,9 @@ use Rattle.spellings.specs.Spelled.{spelled}
 use Rattle.reading.specs.Source.{slotAt, entry, isName}
 use Rattle.interner.specs.Alike.{firstName, matches, same-first}
 use Rattle.interner.specs.Order.{nameAt}
-use Rattle.interner.specs.Hash.{buckets, hash, label, turnOf, Short}
+use Rattle.interner.specs.Hash.{buckets, hash, turnOf, Short}
 use Rattle.interner.specs.Tree.{bucket, bucket-low, turn, turn-small, First, place, link, Met, Past, search-none, search-short}
-use Rattle.interner.specs.Table.{Table, slot-low}
+use Rattle.interner.specs.Table.{slot-low}
 use Rattle.interner.specs.State.{State, Ends}
 
 abbrev pub Bytes : List ℕ → Type 0

@@ -1,6 +1,6 @@
 -- The tree of a bucket: each name hangs where the search for it ended. Links are the places of names in the table, or 0; a bucket has one,
 -- and each name two, one for each way that a search may take from it.
-use mathlib.Core.Path.{_≡_, refl, sym, _∙_, ap, ap₂}
+use mathlib.Core.Path.{_≡_, refl, sym, _∙_, ap}
 use mathlib.Core.Bool.{Bool, true, false}
 use mathlib.Core.List.{List}
 use Prim.Native.Nat.{ℕ, zero, suc, _+_, _*_, _%_, _≤_, _<_}

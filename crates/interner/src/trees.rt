@@ -4,7 +4,6 @@ ghost use mathlib.Core.Path.{_≡_};
 ghost use mathlib.Core.Bool.{true};
 ghost use Prim.Native.Nat.{_+_, _*_, _%_, _≤_, _<_};
 ghost use lib.ListN.{length};
-ghost use Rattle.spellings.specs.Names.{kindAt};
 ghost use Rattle.interner.specs.Order.{nameAt};
 ghost use Rattle.interner.specs.Hash.{hash, bitOf, label, turnOf};
 ghost use Rattle.interner.specs.Table.{Table};

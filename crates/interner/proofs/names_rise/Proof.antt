@@ -2,6 +2,7 @@
 use mathlib.Core.Path.{_≡_, refl, sym, _∙_}
 use mathlib.Core.Logic.{⊎-elim}
 use Prim.Native.Nat.{_-_}
+use native.Mathlib.Omega.{arith}
 use lib.ListN.{length, drop}
 use Rattle.interner.specs.Order.{namesRise, riseFrom, name-is, rise-over, rise-skip, rise-not, rise-many, rise-next}
 use borrow.Author.Needs.{needs}
@@ -33,7 +34,7 @@ returns c =
     let at-kind-at = at-is-name .before in
     let at-loop-test = at-kind-at .before in
     sym (at-loop-test .before .loop .inv ∙
-    rise-not _ _ _ (at-loop-test .loop-test .taken) (name-is _ _ _ _ _ (at-kind-at .kind-at .ensures) (at-is-name .is-name .ensures) (at-slot-at .before .if1 .taken)) _ (at-slot-at .slot-at .ensures .0) (c .if2 .taken))
+    rise-not _ _ _ (at-loop-test .loop-test .taken) (name-is _ _ _ _ _ (at-kind-at .kind-at .ensures) (at-is-name .is-name .ensures) (at-slot-at .before .if1 .taken)) _ (at-slot-at .slot-at .ensures .0) (omega (arith, c .if2 .taken)))
 
 returns-2 : tie.Need-returns-2 Inv-loop μ-loop
 returns-2 c =
