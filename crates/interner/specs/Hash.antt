@@ -1,5 +1,5 @@
 -- Where the search for a name begins, and the way it takes.
-use mathlib.Core.Path.{_≡_, sym, _∙_, ap}
+use mathlib.Core.Path.{_≡_, refl, sym, _∙_, ap}
 use mathlib.Core.Bool.{Bool, true, false, cond}
 use mathlib.Core.List.{List, [], _∷_}
 use Prim.Native.Nat.{ℕ, zero, suc, _+_, _-_, _*_, _/_, _%_, _^_, _≤_, _<_}
@@ -44,16 +44,17 @@ label kind s = hash s / buckets + 524288 * (kind + 128 * length s)
 unfoldable pub bitOf : ℕ → ℕ → ℕ
 bitOf n k = n / 2 ^ k % 2
 
--- The way that the search for a name takes at step `k`: by the bits of its label, and then by those of its bytes.
+-- The way that the search for a name takes at step `k`: by the bits of its label, and then by those of its bytes, the last byte first: names
+-- are compared from the first byte on, so what takes long in one is over soon in the other.
 unfoldable pub turnOf : ℕ → List ℕ → ℕ → ℕ
-turnOf w s k = cond (ltb k 48) (bitOf w k) (bitOf (getD s ((k - 48) / 8) 0) (k % 8))
+turnOf w s k = cond (ltb k 48) (bitOf w k) (bitOf (getD s (length s - ((k - 48) / 8 + 1)) 0) (k % 8))
 
 module _ (w : ℕ) (s : List ℕ) (k : ℕ) where
   pub turn-label : k < 48 → turnOf w s k ≡ bitOf w k
   unfolding turnOf
   turn-label h = rw (lt-ltb k 48 h)
 
-  pub turn-byte : 48 ≤ k → turnOf w s k ≡ bitOf (getD s ((k - 48) / 8) 0) (k % 8)
+  pub turn-byte : 48 ≤ k → turnOf w s k ≡ bitOf (getD s (length s - ((k - 48) / 8 + 1)) 0) (k % 8)
   unfolding turnOf
   turn-byte h = rw (le-ltb k 48 h)
 
@@ -61,7 +62,7 @@ module _ (w : ℕ) (s : List ℕ) (k : ℕ) where
   unfolding turnOf bitOf
   turn-low = go (ltb k 48)
     where
-      go : (b : Bool) → cond b (bitOf w k) (bitOf (getD s ((k - 48) / 8) 0) (k % 8)) < 2
+      go : (b : Bool) → cond b (bitOf w k) (bitOf (getD s (length s - ((k - 48) / 8 + 1)) 0) (k % 8)) < 2
       go true = omega arith
       go false = omega arith
 
@@ -112,11 +113,10 @@ module _ (a b : ℕ) (s t : List ℕ) (p : Short a s) (q : Short b t) (same : (k
     where
       bit : (k : ℕ) → k < 8 → bitOf (getD s i 0) k ≡ bitOf (getD t i 0) k
       bit k m =
-          let at = 48 + 8 * i + k in
-          let x : (at - 48) / 8 ≡ i = omega arith in
+          let at = 48 + 8 * (length s - 1 - i) + k in
           let y : at % 8 ≡ k = omega arith in
-          let f : (w : ℕ) (u : List ℕ) → turnOf w u at ≡ bitOf (getD u i 0) k = λ w u. turn-byte w u at (omega arith) ∙ rw (x, y) in
-          sym (f (label a s) s) ∙ (same at (omega arith) ∙ f (label b t) t)
+          let f : (w : ℕ) (u : List ℕ) → length u ≡ length s → turnOf w u at ≡ bitOf (getD u i 0) k = λ w u e. let x : length u - ((at - 48) / 8 + 1) ≡ i = omega arith in turn-byte w u at (omega arith) ∙ rw (x, y) in
+          sym (f (label a s) s refl) ∙ (same at (omega arith) ∙ f (label b t) t (sym (both-parts .1)))
 
   pub same-kinds : a ≡ b
   same-kinds = both-parts .0

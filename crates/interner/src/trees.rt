@@ -2,7 +2,7 @@
 // bits of its own label and spelling.
 ghost use mathlib.Core.Path.{_≡_};
 ghost use mathlib.Core.Bool.{true};
-ghost use Prim.Native.Nat.{_+_, _*_, _%_, _≤_, _<_};
+ghost use Prim.Native.Nat.{_+_, _-_, _≤_, _<_};
 ghost use lib.ListN.{length};
 ghost use Rattle.interner.specs.Order.{nameAt};
 ghost use Rattle.interner.specs.Hash.{hash, bitOf, label, turnOf};
@@ -38,6 +38,15 @@ fn bit(n: usize, k: usize) -> usize
     (n >> k) % 2
 }
 
+fn minus(a: usize, b: usize) -> usize
+    ensures { λ r. ⌜ r ≡ a - b ⌝ }
+{
+    if a < b {
+        return 0;
+    }
+    a - b
+}
+
 // The way that the search for a name takes at its k-th step.
 fn turn(label: usize, name: &[u8], k: usize) -> usize
     ensures { λ r. ⌜ (r ≡ turnOf label (now (name .entry)) k) × (r < 2) ⌝ }
@@ -45,7 +54,8 @@ fn turn(label: usize, name: &[u8], k: usize) -> usize
     if k < 48 {
         return bit(label, k);
     }
-    bit(table::byte(name, (k - 48) / 8), k % 8)
+    let back = (k - 48) / 8 + 1;
+    bit(table::byte(name, minus(name.len(), back)), k % 8)
 }
 
 // Where the search for token `i`, a name, ends: at the link to the first that is spelled so, or at an empty one, where `i` is to hang.
