@@ -31,16 +31,15 @@ const NOTES: [&str; 10] = [
     "never below 0",
 ];
 
-/// Pieces while there is room for one.
+/// Pieces, left out where there is no room for them.
 pub fn scripts(size: usize) -> String {
     const PIECES: [fn(&mut Rng) -> String; 12] = [
         constant, constant, constant, note, label, import, function, function, choice, record,
         steps, block_note,
     ];
-    const DRAWS: usize = 40;
     let mut rng = Rng::new(1);
     let mut text = String::new();
-    for _ in 0..DRAWS + size {
+    for _ in 0..size {
         let piece = PIECES[rng.below(PIECES.len())](&mut rng);
         if text.len() + piece.len() <= size {
             text.push_str(&piece);
