@@ -35,10 +35,11 @@ pub const READ_KINDS: [Kind; 16] = [
     Kind::new("reports in statements", reports_in_statements),
 ];
 
-pub const WORST_KINDS: [Kind; 7] = [
+pub const WORST_KINDS: [Kind; 8] = [
     Kind::longest("names behind the table", worst::names_behind_the_table),
     Kind::longest("one name behind it", worst::one_name_behind_the_table),
     Kind::longest("names of one bucket", worst::names_of_one_bucket),
+    Kind::longest("the same, passed over", worst::passed_names_of_one_bucket),
     Kind::longest("long decimals", worst::long_decimals),
     Kind::longest("calls of calls", worst::calls_of_calls),
     Kind::longest("empty blocks", worst::empty_blocks),

@@ -29,6 +29,12 @@ pub fn names_of_one_bucket(size: usize) -> String {
     statements(size, names_in_bucket())
 }
 
+/// Found: no declaration has them, and the reference never looks them up.
+pub fn passed_names_of_one_bucket(size: usize) -> String {
+    let mut names = names_in_bucket();
+    filled(size, |_| names.next().expect("names don't end") + " ")
+}
+
 /// A statement of each name while there is room.
 fn statements(size: usize, mut names: impl Iterator<Item = String>) -> String {
     let (before, behind) = ("init {", "}");
