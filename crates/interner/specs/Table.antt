@@ -4,7 +4,7 @@ use mathlib.Core.Bool.{Bool, true, false, cond, _&&_, true≢false}
 use mathlib.Core.List.{List}
 use Prim.Native.Nat.{ℕ, _+_, _*_, _/_, _%_, _≤_, _<_}
 use native.Mathlib.Omega.{arith}
-use borrow.Author.Tests.{eqb-true, eqb-false, eq-eqb, ne-eqb, le-leb, lt-leb, ltb-true, ltb-false}
+use borrow.Author.Tests.{eqb-true, eqb-false, le-leb, lt-leb, ltb-true, ltb-false}
 use lib.Dec.{eqb, ltb, leb}
 use lib.ListN.{length, getD, set, take, length-set}
 use lib.Seq.{getD-set-same, getD-set-other, take-set-le}
@@ -30,7 +30,7 @@ pub record Annotates (source text tokens : List ℕ) : Type 0 where
 unfoldable pub annotatable : List ℕ → List ℕ → ℕ → Bool
 annotatable text tokens size = leb (length text) tableStart && (leb (sourceLength (length text)) size && (allInside tokens (length text) && namesRise tokens))
 
--- By the tests of the four, in turn.
+-- By the tests, in turn.
 module _ (text tokens : List ℕ) (size : ℕ) where
   pub too-long : tableStart < length text → false ≡ annotatable text tokens size
   unfolding annotatable
@@ -41,14 +41,9 @@ module _ (text tokens : List ℕ) (size : ℕ) where
     unfolding annotatable
     too-short h = rw (le-leb (length text) tableStart l, lt-leb (sourceLength (length text)) size h)
 
-    module _ (h : sourceLength (length text) ≤ size) (a : Bool) (e : a ≡ allInside tokens (length text)) where
-      pub some-outside : a ≡ false → false ≡ annotatable text tokens size
-      unfolding annotatable
-      some-outside f = rw (le-leb (length text) tableStart l, le-leb (sourceLength (length text)) size h, ← e, f)
-
-      pub by-names : a ≡ true → (b : Bool) → b ≡ namesRise tokens → b ≡ annotatable text tokens size
-      unfolding annotatable
-      by-names f b g = rw (le-leb (length text) tableStart l, le-leb (sourceLength (length text)) size h, ← e, f) g
+    pub by-order : sourceLength (length text) ≤ size → (b : Bool) → b ≡ (allInside tokens (length text) && namesRise tokens) → b ≡ annotatable text tokens size
+    unfolding annotatable
+    by-order h b e = rw (le-leb (length text) tableStart l, le-leb (sourceLength (length text)) size h) e
 
 unfoldable pub written : List ℕ → ℕ → ℕ → List ℕ
 written source slot first = set (set source (65534 + 2 * slot) (first % 256)) (65535 + 2 * slot) (first / 256)
@@ -92,8 +87,10 @@ pub record Table (text tokens source : List ℕ) (n : ℕ) : Type 0 where
 
 -- Before the first token nothing is told of.
 pub table-none : (text tokens source : List ℕ) → sourceLength (length text) ≤ length source → length text ≤ tableStart → take (length text) source ≡ text
-    → allInside tokens (length text) ≡ true → namesRise tokens ≡ true → Table text tokens source 0
-table-none text tokens source l f b e g = record { long = l; fits = f; begins = b; inside = inside-of tokens (length text) e; order = ordered-of tokens g; right = λ j h. absurd (omega arith) }
+    → (allInside tokens (length text) && namesRise tokens) ≡ true → Table text tokens source 0
+table-none text tokens source l f b e =
+    let (x, y) = both (allInside tokens (length text)) (namesRise tokens) e in
+    record { long = l; fits = f; begins = b; inside = inside-of tokens (length text) x; order = ordered-of tokens y; right = λ j h. absurd (omega arith) }
 
 module _ (text tokens source : List ℕ) (n : ℕ) (t : Table text tokens source n) where
   pub slot-low : (j : ℕ) → 2 * slotAt tokens j ≤ length text + 1

@@ -1,7 +1,7 @@
 // A source is a copy of the text with a table of its names behind it: the parser asks of each name which token was the
 // first to be spelled so, and a table made in one pass spares it a look at all tokens for each.
 ghost use mathlib.Core.Path.{_≡_};
-ghost use mathlib.Core.Bool.{true, false};
+ghost use mathlib.Core.Bool.{true, false, _&&_};
 ghost use Prim.Native.Nat.{_≤_};
 ghost use lib.ListN.{length, take};
 ghost use Rattle.reading.specs.Source.{isTold, firstOf};
@@ -44,28 +44,18 @@ pub fn first_of(source: &[u8], tokens: &[u32], kind: u32, i: u32) -> usize
     spellings::first_alike(source, tokens, kind, i)
 }
 
-// Whether all tokens end at `n` or before it.
-fn ends_inside(tokens: &[u32], n: usize) -> bool
-    ensures { λ r. ⌜ r ≡ allInside (now (tokens .entry)) n ⌝ }
+// Whether all tokens end at `n` or before it, and the names' places in the table rise, so that no two share one; the number of each name fits
+// two bytes. Lexing makes no others.
+fn in_order(tokens: &[u32], n: usize) -> bool
+    ensures { λ r. ⌜ r ≡ (allInside (now (tokens .entry)) n && namesRise (now (tokens .entry))) ⌝ }
 {
     let mut i = 0;
+    let mut last = 0;
     while i < tokens.len() {
         let end = words::token_end(tokens[i]) as usize;
         if n < end {
             return false;
         }
-        i += 1;
-    }
-    true
-}
-
-// Whether the names' places in the table rise, so that no two share one, and the number of each name fits two bytes. Lexing makes no others.
-fn names_rise(tokens: &[u32]) -> bool
-    ensures { λ r. ⌜ r ≡ namesRise (now (tokens .entry)) ⌝ }
-{
-    let mut i = 0;
-    let mut last = 0;
-    while i < tokens.len() {
         if table::is_name(spellings::kind_at(tokens, i)) {
             let slot = table::slot_at(tokens, i);
             if slot <= last {
@@ -104,12 +94,10 @@ pub fn annotate(text: &[u8], tokens: &[u32], source: &mut [u8]) -> bool
     if source.len() < table::START + 2 * ((text.len() + 1) / 2) {
         return false;
     }
-    if ends_inside(tokens, text.len()) {
-        if names_rise(tokens) {
-            copy(text, source);
-            trees::tell(text, tokens, source);
-            return true;
-        }
+    if in_order(tokens, text.len()) {
+        copy(text, source);
+        trees::tell(text, tokens, source);
+        return true;
     }
     false
 }

@@ -1,7 +1,7 @@
 -- `annotate` meets its contract, by case.
 use mathlib.Core.Path.{refl, sym, _∙_}
 use mathlib.Core.Bool.{true≢false, false≢true}
-use Rattle.interner.specs.Table.{table-none, annotates, too-long, too-short, some-outside, by-names}
+use Rattle.interner.specs.Table.{table-none, annotates, too-long, too-short, by-order}
 use native.Mathlib.Omega.{arith}
 use borrow.Author.Needs.{needs}
 use Rattle.interner.proofs.annotate.Statement.{statement}
@@ -22,11 +22,8 @@ add-if2-2 c = search needs
 returns-2 : tie.Need-returns-2
 returns-2 c = (too-short _ _ _ (c .before .if1 .left) (c .if2 .taken), (λ e. absurd (false≢true e)), (λ e. refl))
 
-ends-inside-requires : tie.Need-ends-inside-requires
-ends-inside-requires c κs = search needs
-
-names-rise-requires : tie.Need-names-rise-requires
-names-rise-requires c κs = search needs
+in-order-requires : tie.Need-in-order-requires
+in-order-requires c κs = search needs
 
 copy-requires : tie.Need-copy-requires
 copy-requires c κs = search needs
@@ -34,13 +31,11 @@ copy-requires c κs = search needs
 tell-requires : tie.Need-tell-requires
 tell-requires c κs =
     let at-copy = c .before .before .before in
-    let at-if4 = at-copy .before .before in
-    let at-names-rise = at-if4 .before in
-    let at-if3 = at-names-rise .before in
-    let at-ends-inside = at-if3 .before in
-    let at-if2 = at-ends-inside .before in
+    let at-if3 = at-copy .before .before in
+    let at-in-order = at-if3 .before in
+    let at-if2 = at-in-order .before in
     table-none _ _ _ (omega (arith, at-copy .copy .kept .1 .0, at-if2 .if2 .left)) (at-if2 .before .if1 .left) (at-copy .copy .ensures)
-    (sym (at-ends-inside .ends-inside .ensures) ∙ at-if3 .if3 .taken) (sym (at-names-rise .names-rise .ensures) ∙ at-if4 .if4 .taken)
+    (sym (at-in-order .in-order .ensures) ∙ at-if3 .if3 .taken)
 
 same-length : tie.Need-same-length
 same-length c = search needs
@@ -49,34 +44,19 @@ returns-3 : tie.Need-returns-3
 returns-3 c =
     let at-tell = c .before .before in
     let at-copy = at-tell .before .before .before .before in
-    let at-if4 = at-copy .before .before in
-    let at-names-rise = at-if4 .before in
-    let at-if3 = at-names-rise .before in
-    let at-ends-inside = at-if3 .before in
-    let at-if2 = at-ends-inside .before in (
-      by-names _ _ _ (at-if2 .before .if1 .left) (at-if2 .if2 .left) _ (at-ends-inside .ends-inside .ensures) (at-if3 .if3 .taken) _
-          (sym (at-if4 .if4 .taken) ∙ at-names-rise .names-rise .ensures),
+    let at-if3 = at-copy .before .before in
+    let at-in-order = at-if3 .before in
+    let at-if2 = at-in-order .before in (
+      by-order _ _ _ (at-if2 .before .if1 .left) (at-if2 .if2 .left) _ (sym (at-if3 .if3 .taken) ∙ at-in-order .in-order .ensures),
       (λ e. annotates _ _ _ (at-tell .tell .ensures)),
       (λ e. absurd (true≢false e)),
     )
 
 returns-4 : tie.Need-returns-4
 returns-4 c =
-    let at-names-rise = c .before in
-    let at-if3 = at-names-rise .before in
-    let at-ends-inside = at-if3 .before in
-    let at-if2 = at-ends-inside .before in (
-      by-names _ _ _ (at-if2 .before .if1 .left) (at-if2 .if2 .left) _ (at-ends-inside .ends-inside .ensures) (at-if3 .if3 .taken) _
-          (sym (c .if4 .left) ∙ at-names-rise .names-rise .ensures),
-      (λ e. absurd (false≢true e)),
-      (λ e. refl),
-    )
-
-returns-5 : tie.Need-returns-5
-returns-5 c =
-    let at-ends-inside = c .before in
-    let at-if2 = at-ends-inside .before in (
-      some-outside _ _ _ (at-if2 .before .if1 .left) (at-if2 .if2 .left) _ (at-ends-inside .ends-inside .ensures) (c .if3 .left),
+    let at-in-order = c .before in
+    let at-if2 = at-in-order .before in (
+      by-order _ _ _ (at-if2 .before .if1 .left) (at-if2 .if2 .left) _ (sym (c .if3 .left) ∙ at-in-order .in-order .ensures),
       (λ e. absurd (false≢true e)),
       (λ e. refl),
     )
@@ -90,11 +70,9 @@ annotate-spec =
     mul-if2
     add-if2-2
     returns-2
-    ends-inside-requires
-    names-rise-requires
+    in-order-requires
     copy-requires
     tell-requires
     same-length
     returns-3
-    returns-4
-    returns-5)
+    returns-4)
