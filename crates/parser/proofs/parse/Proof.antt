@@ -53,8 +53,8 @@ returns-2 c =
     let at-if1 = at-parse-source .before .before .before .before .before in
     text-parsed _ _ _ _ _ (at-if1 .if1 .left) (at-parse-source .parse-source .ensures) ∙ text-short _ _ _ _ _ (at-if1 .if1 .left)
 
-parse-long-requires : tie.Need-parse-long-requires
-parse-long-requires c κs = search needs
+parse-short-requires : tie.Need-parse-short-requires
+parse-short-requires c κs = search needs
 
 same-length-7 : tie.Need-same-length-7
 same-length-7 c = search needs
@@ -67,8 +67,28 @@ same-length-9 c = search needs
 
 returns-3 : tie.Need-returns-3
 returns-3 c =
+    let at-parse-short = c .before .before .before .before .before .before in
+    let at-if3 = at-parse-short .before .before .before .before in
+    let at-if1 = at-if3 .before .before in
+    at-parse-short .parse-short .ensures ∙ text-short _ _ _ _ _ (at-if1 .if1 .left)
+
+parse-long-requires : tie.Need-parse-long-requires
+parse-long-requires c κs = search needs
+
+same-length-10 : tie.Need-same-length-10
+same-length-10 c = search needs
+
+same-length-11 : tie.Need-same-length-11
+same-length-11 c = search needs
+
+same-length-12 : tie.Need-same-length-12
+same-length-12 c = search needs
+
+returns-4 : tie.Need-returns-4
+returns-4 c =
     let at-parse-long = c .before .before .before .before .before .before in
-    let at-if1 = at-parse-long .before .before .before .before .before in
+    let at-if3 = at-parse-long .before .before .before .before in
+    let at-if1 = at-if3 .before .before in
     at-parse-long .parse-long .ensures ∙ text-short _ _ _ _ _ (at-if1 .if1 .left)
 
 pub parse-spec : {M : Type 1} → statement M
@@ -88,8 +108,13 @@ parse-spec =
     same-length-5
     same-length-6
     returns-2
-    parse-long-requires
+    parse-short-requires
     same-length-7
     same-length-8
     same-length-9
-    returns-3)
+    returns-3
+    parse-long-requires
+    same-length-10
+    same-length-11
+    same-length-12
+    returns-4)

@@ -1,17 +1,8 @@
--- `parse_long` meets its contract: the source that it makes stands for the text.
+-- `parse_annotated` meets its contract: a source that was made stands for the text.
 use Rattle.parser.specs.Texts.{source-parsed, text-parsed}
 use borrow.Author.Needs.{needs}
-use Rattle.parser.proofs.parse_long.Statement.{statement}
-use Rattle.parser.proofs.parse_long.Tie as tie
-
-slice-aggregate-annotate : tie.Need-slice-aggregate-annotate
-slice-aggregate-annotate c = search needs
-
-annotate-requires : tie.Need-annotate-requires
-annotate-requires c κs = search needs
-
-slice-aggregate-parse-source : tie.Need-slice-aggregate-parse-source
-slice-aggregate-parse-source c = search needs
+use Rattle.parser.proofs.parse_annotated.Statement.{statement}
+use Rattle.parser.proofs.parse_annotated.Tie as tie
 
 parse-source-requires : tie.Need-parse-source-requires
 parse-source-requires c κs = search needs
@@ -28,9 +19,9 @@ same-length-3 c = search needs
 returns : tie.Need-returns
 returns c =
     let at-parse-source = c .before .before .before .before .before .before in
-    let at-if1 = at-parse-source .before .before .before .before .before in
-    let at-annotate = at-if1 .before .before in
-    source-parsed _ _ _ _ _ _ (at-annotate .annotate .ensures .1 (at-if1 .if1 .taken)) (at-parse-source .parse-source .ensures)
+    let at-if1 = at-parse-source .before .before .before .before in
+    let at-start = at-if1 .before .before .before .before .before .before .before in
+    source-parsed _ _ _ _ _ _ (at-start .pre .1 (at-if1 .if1 .taken)) (at-parse-source .parse-source .ensures)
 
 parse-source-requires-2 : tie.Need-parse-source-requires-2
 parse-source-requires-2 c κs = search needs
@@ -47,15 +38,13 @@ same-length-6 c = search needs
 returns-2 : tie.Need-returns-2
 returns-2 c =
     let at-parse-source2 = c .before .before .before .before .before .before in
-    text-parsed _ _ _ _ _ (search needs) (at-parse-source2 .parse-source2 .ensures)
+    let at-start = at-parse-source2 .before .before .before .before .before .before .before .before .before .before .before in
+    text-parsed _ _ _ _ _ (at-start .pre .0) (at-parse-source2 .parse-source2 .ensures)
 
-pub parse-long-spec : {M : Type 1} → statement M
-parse-long-spec =
+pub parse-annotated-spec : {M : Type 1} → statement M
+parse-annotated-spec =
     tie.close
     (tie.spec
-    slice-aggregate-annotate
-    annotate-requires
-    slice-aggregate-parse-source
     parse-source-requires
     same-length
     same-length-2
