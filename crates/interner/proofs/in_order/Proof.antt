@@ -1,12 +1,12 @@
 -- `in_order` meets its contract: the tokens that were passed end inside, and the names among them rise.
-use mathlib.Core.Path.{_≡_, refl, sym, _∙_}
+use mathlib.Core.Path.{_≡_, refl, _∙_}
 use mathlib.Core.Bool.{true, and-false}
 use mathlib.Core.Logic.{⊎-elim}
 use Prim.Native.Nat.{_-_}
 use native.Mathlib.Omega.{arith}
 use lib.ListN.{length, drop}
 use Rattle.interner.specs.Same.{allInside, inside-next, inside-not, inside-over}
-use Rattle.interner.specs.Order.{nameAt, namesRise, riseFrom, name-is, rise-over, rise-skip, rise-not, rise-many, rise-next}
+use Rattle.interner.specs.Order.{namesRise, riseFrom, name-is, rise-over, rise-skip, rise-not, rise-many, rise-next}
 use borrow.Author.Needs.{needs}
 use Rattle.interner.proofs.in_order.Statement.{statement}
 use Rattle.interner.proofs.in_order.Tie as tie
