@@ -7,3 +7,4 @@ pub mod Tree
 pub mod Table
 pub mod State
 pub mod Search
+pub mod Lexed

@@ -45,7 +45,7 @@ pub fn first_of(source: &[u8], tokens: &[u32], kind: u32, i: u32) -> usize
 }
 
 // Whether all tokens end at `n` or before it, and the names' places in the table rise, so that no two share one; the number of each name fits
-// two bytes. Lexing makes no others.
+// two bytes. So it is with all that lexing makes (`every-text`).
 fn in_order(tokens: &[u32], n: usize) -> bool
     ensures { λ r. ⌜ r ≡ (allInside (now (tokens .entry)) n && namesRise (now (tokens .entry))) ⌝ }
 {
