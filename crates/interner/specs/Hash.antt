@@ -37,7 +37,7 @@ unfolding hashFrom
 hash-small [] h l = l
 hash-small (b ∷ s) h l = hash-small s ((h * 16777619 + b) % 4294967296) (omega arith)
 
--- The label of a name: what of its hash doesn't choose the bucket, its kind, and its length.
+-- The label of a name: what of its hash doesn't choose the bucket (19 bits), its kind (7), and its length (17).
 abbrev pub label : ℕ → List ℕ → ℕ
 label kind s = hash s / buckets + 524288 * (kind + 128 * length s)
 

@@ -273,9 +273,9 @@ unfolding hasMark
 mark-long text e = spelled-within mark text e
 
 -- Every name of every text is in the table.
-pub every-text : (text : List ℕ) → length text ≤ tableStart → annotatable text (map word (tokensOf text)) sourceLength ≡ true
+pub every-text : (text : List ℕ) (size : ℕ) → length text ≤ tableStart → sourceLength (length text) ≤ size → annotatable text (map word (tokensOf text)) size ≡ true
 unfolding annotatable tokensOf
-every-text text h = rw (le-leb (length text) tableStart h) (go (hasMark text) refl)
+every-text text size h room = rw (le-leb (length text) tableStart h, le-leb (sourceLength (length text)) size room) (go (hasMark text) refl)
   where
     go : (t : Bool) → hasMark text ≡ t
         → (allInside (map word (cond t (record { kind = TokenKind.Whitespace; end = 3 } ∷ tokensFrom 3 0 (drop 3 text)) (tokensFrom 0 0 text))) (length text)

@@ -5,12 +5,20 @@ ghost use mathlib.Core.Bool.{true};
 ghost use Prim.Native.Nat.{_+_, _-_, _≤_, _<_};
 ghost use lib.ListN.{length};
 ghost use Rattle.interner.specs.Order.{nameAt};
-ghost use Rattle.interner.specs.Hash.{hash, bitOf, label, turnOf};
+ghost use Rattle.interner.specs.Hash.{hash, bitOf, turnOf};
 ghost use Rattle.interner.specs.Table.{Table};
 ghost use Rattle.interner.specs.State.{State, Ends};
 use crate::table;
 
 const BUCKETS: usize = 8192;
+
+// Behind the links of the buckets stand two for each place in the table; places count from 1.
+const LINKS: usize = 8190;
+
+const LABEL_BITS: usize = 48;
+
+// What of a hash chooses no bucket is below this.
+const REST: usize = 524288;
 
 fn wide(n: u16) -> usize
     ensures { λ r. ⌜ r ≡ n ⌝ }
@@ -51,10 +59,10 @@ fn minus(a: usize, b: usize) -> usize
 fn turn(label: usize, name: &[u8], k: usize) -> usize
     ensures { λ r. ⌜ (r ≡ turnOf label (now (name .entry)) k) × (r < 2) ⌝ }
 {
-    if k < 48 {
+    if k < LABEL_BITS {
         return bit(label, k);
     }
-    let back = (k - 48) / 8 + 1;
+    let back = (k - LABEL_BITS) / 8 + 1;
     bit(table::byte(name, minus(name.len(), back)), k % 8)
 }
 
@@ -67,7 +75,7 @@ fn search(text: &[u8], tokens: &[u32], source: &[u8], links: &[u16], i: usize) -
     let kind = spellings::kind_at(tokens, i);
     let name = lexer::spelling(text, tokens, i);
     let h = hash(name);
-    let label = h / BUCKETS + 524288 * (kind as usize + 128 * name.len());
+    let label = h / BUCKETS + REST * (kind as usize + 128 * name.len());
     let mut p = h % BUCKETS;
     let mut k = 0;
     loop {
@@ -78,7 +86,7 @@ fn search(text: &[u8], tokens: &[u32], source: &[u8], links: &[u16], i: usize) -
         if spellings::named(text, tokens, kind, name, table::get(source, c)) {
             return p;
         }
-        p = 8190 + 2 * c + turn(label, name, k);
+        p = LINKS + 2 * c + turn(label, name, k);
         k += 1;
     }
 }
