@@ -236,3 +236,31 @@ module _ (text tokens : List ℕ) (s : Reading) (m : Memory) (k : ℕ) (ek : k �
 
   pub passes-here : (c : Cursor) (next : Reading) → c ≡ advanced (s .state .cursor) → next ≡ moved s c → view tt next m ≡ from s m (passed text tokens)
   passes-here c next ec en = advance-plain text tokens s m c next k (lexError k) ec en ek refl (small-plain k h .1)
+
+-- Where a blank stands at the cursor and such a token behind it, the blank is what is skipped.
+module _ (text tokens : List ℕ) (s : Reading) (m : Memory) (c : Cursor) (next : Reading) (k : ℕ) (blank : kindAt [] tokens (s .state .cursor) ≡ Token.Whitespace)
+    (ec : c ≡ advanced (s .state .cursor)) (en : next ≡ moved s c) (ek : k ≡ kindAt [] tokens c) (h : k < Token.Whitespace) where
+  abbrev here : Cursor
+  here = s .state .cursor
+
+  abbrev past : State
+  past = withCursor (advanced here) (s .state)
+
+  known : (isTrivia (kindAt text tokens here) ≡ true) × (lexError (kindAt text tokens here) ≡ Nothing)
+  unfolding isTrivia lexError
+  known = let e : kindAt text tokens here ≡ Token.Whitespace = sym (kind-any text tokens here) ∙ blank in rw e (refl, refl)
+
+  behind : isTrivia (kindAt text tokens (advanced here)) ≡ false
+  behind = ap isTrivia (sym (ek ∙ (kind-any text tokens c ∙ ap (kindAt text tokens) ec))) ∙ small-plain k h .0
+
+  blank-skipped : (left : ℕ) → here .end - here .at ≡ left → skipped text tokens left (s .state) m ≡ done tt past m
+  blank-skipped zero e = let l = trivia-inside text tokens here (known .0) in absurd (omega arith)
+  blank-skipped (suc left) e =
+      skip-yes text tokens left (s .state) m (known .0)
+      ∙ (ap (λ (o : Out (Unit {0})). bind o (λ _ u n. skipped text tokens left u n)) (passed-plain text tokens (s .state) m (known .1))
+      ∙ skip-no text tokens left past m behind)
+
+  pub skips-blank : view tt next m ≡ from s m (skipTrivia text tokens)
+  skips-blank =
+      rw (en, ec)
+      (ap (λ (o : Out (Unit {0})). cond (eqb (s .refusal) 0) o (refused (s .refusal) (s .place))) (sym (blank-skipped (here .end - here .at) refl)))

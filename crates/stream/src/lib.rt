@@ -126,7 +126,7 @@ fn skip_trivia(s: Reading, tokens: &[u32], reports: &mut [u32]) -> Reading
 }
 
 // The kind of the next token that is no trivia, which is skipped.
-fn look_behind(s: Reading, tokens: &[u32], reports: &mut [u32]) -> Got
+fn look_far(s: Reading, tokens: &[u32], reports: &mut [u32]) -> Got
     ensures { λ r. ⌜ (r .it ≡ kindAt [] (now (tokens .entry)) (r .at .state .cursor)) × Whatever (λ (text : List ℕ). skipTrivia text (now (tokens .entry))) s (now (reports .entry)) (r .at) (now (reports .exit)) ⌝ }
 {
     let at = skip_trivia(s, tokens, reports);
@@ -138,7 +138,24 @@ fn look_behind(s: Reading, tokens: &[u32], reports: &mut [u32]) -> Got
     }
 }
 
-// The same. Mostly the token at the cursor is no trivia, and there is no more to do; so that alone is compiled into the callers.
+// The same. Mostly one blank stands before it.
+fn look_behind(s: Reading, tokens: &[u32], reports: &mut [u32]) -> Got
+    ensures { λ r. ⌜ (r .it ≡ kindAt [] (now (tokens .entry)) (r .at .state .cursor)) × Whatever (λ (text : List ℕ). skipTrivia text (now (tokens .entry))) s (now (reports .entry)) (r .at) (now (reports .exit)) ⌝ }
+{
+    let state = s.state;
+    let cursor = state.cursor;
+    if cursor.peek(tokens) == token::WHITESPACE {
+        let next = cursor.advance();
+        let kind = next.peek(tokens);
+        if kind < token::WHITESPACE {
+            let at = move_to(s, next);
+            return Got { it: kind, at };
+        }
+    }
+    look_far(s, tokens, reports)
+}
+
+// The same. Often the token at the cursor is no trivia, and there is no more to do; that alone is compiled into the callers.
 fn look(s: Reading, tokens: &[u32], reports: &mut [u32]) -> Got
     ensures { λ r. ⌜ (r .it ≡ kindAt [] (now (tokens .entry)) (r .at .state .cursor)) × Whatever (λ (text : List ℕ). skipTrivia text (now (tokens .entry))) s (now (reports .entry)) (r .at) (now (reports .exit)) ⌝ }
 {
