@@ -9,7 +9,7 @@ use crate::{
     timing::{in_turn, middle, ratios, sampler},
 };
 use generate::Rng;
-use recipe::{Names, Pantry, Recipe};
+use recipe::{Names, Recipe, Supply};
 use std::{
     hint::black_box,
     panic, thread,
@@ -44,10 +44,10 @@ const DRAWN: usize = 12;
 /// So much slower is a gain; less may be chance.
 const GAIN: f64 = 1.02;
 
-/// So many of the climbs' ends are told for each pantry.
+/// So many of the climbs' ends are told for each supply.
 const TOLD: usize = 4;
 
-/// The same time for each pantry, as names that are slow would hide all else.
+/// The same time for each supply, as names that are slow would hide all else.
 pub fn print(options: &Options) {
     println!(
         "ns a byte: the middle of samples in turn; ratios: the middle, lower and upper quarter"
@@ -57,9 +57,9 @@ pub fn print(options: &Options) {
         "read", "scripts", "fast", "read / scripts", "read / fast"
     );
     panic::set_hook(Box::new(|_| {}));
-    let share = Duration::from_secs(options.seconds) / Pantry::ALL.len() as u32;
-    for pantry in Pantry::ALL {
-        let mut search = Search::new(options.seed, pantry);
+    let share = Duration::from_secs(options.seconds) / Supply::ALL.len() as u32;
+    for supply in Supply::ALL {
+        let mut search = Search::new(options.seed, supply);
         let end = Instant::now() + share;
         let mut found = Vec::new();
         while Instant::now() < end {
@@ -67,7 +67,7 @@ pub fn print(options: &Options) {
         }
         found.retain(|climbed| climbed.time > 0.0);
         found.sort_by(|one, other| other.time.total_cmp(&one.time));
-        println!("{pantry}: {} climbs, {} texts", found.len(), search.timed);
+        println!("{supply}: {} climbs, {} texts", found.len(), search.timed);
         for climbed in found.iter().take(TOLD) {
             println!("{}  {}", search.beside_others(&climbed.recipe), climbed.recipe);
         }
@@ -81,16 +81,16 @@ struct Climbed {
 
 struct Search {
     rng: Rng,
-    pantry: Pantry,
+    supply: Supply,
     names: Names,
     enough: Slices,
     timed: usize,
 }
 
 impl Search {
-    fn new(seed: u64, pantry: Pantry) -> Self {
+    fn new(seed: u64, supply: Supply) -> Self {
         let (rng, names, enough) = (Rng::new(seed), Names::new(), Slices::enough());
-        Search { rng, pantry, names, enough, timed: 0 }
+        Search { rng, supply, names, enough, timed: 0 }
     }
 
     fn climb(&mut self, end: Instant) -> Climbed {
@@ -104,7 +104,7 @@ impl Search {
         let mut in_vain = 0;
         while in_vain < PATIENCE && Instant::now() < end {
             in_vain += 1;
-            let recipe = best.recipe.changed(&mut self.rng, self.pantry);
+            let recipe = best.recipe.changed(&mut self.rng, self.supply);
             let time = self.time(&recipe);
             if best.time * GAIN < time {
                 best = Climbed { recipe, time };
@@ -115,7 +115,7 @@ impl Search {
     }
 
     fn drawn(&mut self) -> Climbed {
-        let recipe = Recipe::drawn(&mut self.rng, self.pantry);
+        let recipe = Recipe::drawn(&mut self.rng, self.supply);
         let time = self.time(&recipe);
         Climbed { recipe, time }
     }
@@ -126,7 +126,7 @@ impl Search {
         /// Seconds from which on a call is told from chance.
         const LONG: f64 = 0.03;
         self.timed += 1;
-        let text = recipe.text(&self.names, self.pantry.size());
+        let text = recipe.text(&self.names, self.supply.size());
         let Some(mut slices) = self.enough.fitting(text.as_bytes()) else { return 0.0 };
         let mut shortest = f64::INFINITY;
         for _ in 0..TRIES {
@@ -143,7 +143,7 @@ impl Search {
     /// The text is read beside scripts, and beside the reference over fast stand-ins
     /// unless that panics.
     fn beside_others(&mut self, recipe: &Recipe) -> String {
-        let text = recipe.text(&self.names, self.pantry.size());
+        let text = recipe.text(&self.names, self.supply.size());
         let ordinary = scripts(LONGEST);
         let mut slices = [&text, &ordinary].map(|text| Slices::for_text(text.as_bytes()));
         let [first, second] = &mut slices;

@@ -35,15 +35,18 @@ pub const READ_KINDS: [Kind; 16] = [
     Kind::new("reports in statements", reports_in_statements),
 ];
 
-pub const WORST_KINDS: [Kind; 8] = [
+pub const WORST_KINDS: [Kind; 11] = [
     Kind::longest("names behind the table", worst::names_behind_the_table),
     Kind::longest("one name behind it", worst::one_name_behind_the_table),
     Kind::longest("names of one bucket", worst::names_of_one_bucket),
     Kind::longest("the same, passed over", worst::passed_names_of_one_bucket),
+    Kind::longest("names of one hash", worst::names_of_one_hash),
     Kind::longest("long decimals", worst::long_decimals),
     Kind::longest("calls of calls", worst::calls_of_calls),
     Kind::longest("empty blocks", worst::empty_blocks),
     Kind::longest("blocks left open", worst::blocks_left_open),
+    Kind::longest("commas for arms", worst::commas_for_arms),
+    Kind::longest("operators alone", worst::operators_for_statements),
 ];
 
 pub const LEX_KINDS: [Kind; 8] = [
@@ -207,5 +210,12 @@ mod tests {
         let names: HashSet<String> = worst::names_in_bucket().take(10_000).collect();
         assert_eq!(names.len(), 10_000);
         assert!(names.iter().all(|name| worst::bucket(name) == 0));
+    }
+
+    #[test]
+    fn names_of_one_hash_are_different() {
+        let names: HashSet<String> = worst::names_with_hash().take(1_000).collect();
+        let hashes: HashSet<u32> = names.iter().map(|name| worst::hash(name)).collect();
+        assert_eq!((names.len(), hashes.len()), (1_000, 1));
     }
 }

@@ -30,31 +30,31 @@ enum Piece {
 
 /// Of what pieces a search may take.
 #[derive(Clone, Copy, PartialEq, Eq)]
-pub enum Pantry {
-    /// Fixed pieces, and no more tokens than the library's table of names has room for.
+pub enum Supply {
+    /// Fixed pieces, and no more tokens than the library's table of names had room for once.
     Short,
     Texts,
     NewNames,
     NamesInBucket,
 }
 
-impl Pantry {
-    pub const ALL: [Pantry; 4] =
-        [Pantry::Short, Pantry::Texts, Pantry::NewNames, Pantry::NamesInBucket];
+impl Supply {
+    pub const ALL: [Supply; 4] =
+        [Supply::Short, Supply::Texts, Supply::NewNames, Supply::NamesInBucket];
 
     /// The length of its texts.
     pub fn size(self) -> usize {
-        if self == Pantry::Short { TABLE_ENTRIES - 1 } else { LONGEST }
+        if self == Supply::Short { TABLE_ENTRIES - 1 } else { LONGEST }
     }
 }
 
-impl fmt::Display for Pantry {
+impl fmt::Display for Supply {
     fn fmt(&self, f: &mut fmt::Formatter<'_>) -> fmt::Result {
         f.write_str(match self {
-            Pantry::Short => "fixed pieces, within the table of names",
-            Pantry::Texts => "fixed pieces",
-            Pantry::NewNames => "and new names",
-            Pantry::NamesInBucket => "and new names in one bucket",
+            Supply::Short => "fixed pieces, within the table of names",
+            Supply::Texts => "fixed pieces",
+            Supply::NewNames => "and new names",
+            Supply::NamesInBucket => "and new names in one bucket",
         })
     }
 }
@@ -113,10 +113,10 @@ const TIMES: [usize; 12] = [1, 1, 1, 1, 2, 3, 8, 30, 100, 300, 1_000, TABLE_ENTR
 const PARTS: usize = 8;
 
 impl Piece {
-    fn drawn(rng: &mut Rng, pantry: Pantry) -> Self {
+    fn drawn(rng: &mut Rng, supply: Supply) -> Self {
         match rng.below(10) {
-            8 if matches!(pantry, Pantry::NewNames | Pantry::NamesInBucket) => Piece::NewName,
-            9 if pantry == Pantry::NamesInBucket => Piece::NameInBucket,
+            8 if matches!(supply, Supply::NewNames | Supply::NamesInBucket) => Piece::NewName,
+            9 if supply == Supply::NamesInBucket => Piece::NameInBucket,
             0..6 => Piece::Text(rng.pick(&STRUCTURE)),
             _ => Piece::Text(rng.pick(TOKENS)),
         }
@@ -124,41 +124,41 @@ impl Piece {
 }
 
 impl Part {
-    fn drawn(rng: &mut Rng, pantry: Pantry) -> Self {
-        Part { piece: Piece::drawn(rng, pantry), times: TIMES[rng.below(TIMES.len())] }
+    fn drawn(rng: &mut Rng, supply: Supply) -> Self {
+        Part { piece: Piece::drawn(rng, supply), times: TIMES[rng.below(TIMES.len())] }
     }
 }
 
 impl Recipe {
-    pub fn drawn(rng: &mut Rng, pantry: Pantry) -> Self {
+    pub fn drawn(rng: &mut Rng, supply: Supply) -> Self {
         let (in_front, in_cycle) = (rng.below(3), 1 + rng.below(5));
-        let mut parts = |count| (0..count).map(|_| Part::drawn(rng, pantry)).collect();
+        let mut parts = |count| (0..count).map(|_| Part::drawn(rng, supply)).collect();
         Recipe { front: parts(in_front), cycle: parts(in_cycle) }
     }
 
     /// One to three changes.
-    pub fn changed(&self, rng: &mut Rng, pantry: Pantry) -> Self {
+    pub fn changed(&self, rng: &mut Rng, supply: Supply) -> Self {
         let mut recipe = self.clone();
         for _ in 0..1 + rng.below(3) {
-            recipe.change(rng, pantry);
+            recipe.change(rng, supply);
         }
         recipe
     }
 
-    fn change(&mut self, rng: &mut Rng, pantry: Pantry) {
+    fn change(&mut self, rng: &mut Rng, supply: Supply) {
         let (parts, least) =
             if rng.chance(1, 3) { (&mut self.front, 0) } else { (&mut self.cycle, 1) };
         let at = rng.below(parts.len() + 1);
         let has_part = at < parts.len();
         match rng.below(5) {
-            0 if has_part => parts[at].piece = Piece::drawn(rng, pantry),
+            0 if has_part => parts[at].piece = Piece::drawn(rng, supply),
             1 if has_part => parts[at].times = TIMES[rng.below(TIMES.len())],
             2 if has_part && least < parts.len() => drop(parts.remove(at)),
             3 if has_part => {
                 let other = rng.below(parts.len());
                 parts.swap(at, other);
             }
-            _ if parts.len() < PARTS => parts.insert(at, Part::drawn(rng, pantry)),
+            _ if parts.len() < PARTS => parts.insert(at, Part::drawn(rng, supply)),
             _ => {}
         }
     }
