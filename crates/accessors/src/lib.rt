@@ -1,12 +1,14 @@
 // Every accessor of the views by its number, for callers that take plain numbers. The numbers stand in `number`.
+#![tactic(auto, unfolding(crate::specs::Rows::pick))]
+
 ghost use Rattle.std.specs.Prelude.{◌≡◌};
 ghost use Rattle.looking.specs.View.{answer, spans, counts};
 ghost use Rattle.accessors.specs.Views.{number_view, span_view, count_view};
 
 mod any;
 mod branches;
-mod declarations;
 mod functions;
+mod items;
 pub mod number;
 mod operators;
 mod statements;
@@ -20,7 +22,7 @@ pub fn number_view(which: u32, nodes: &[u32], n: u32, i: u32) -> View
 {
     match which / 32 {
         0 => any::view(which, nodes, n, i),
-        1 => declarations::view(which, nodes, n, i),
+        1 => items::view(which, nodes, n, i),
         2 => statements::view(which, nodes, n, i),
         3 => functions::view(which, nodes, n, i),
         4 => operators::view(which, nodes, n, i),
@@ -36,7 +38,7 @@ pub fn span_view(which: u32, nodes: &[u32], n: u32) -> Spanned
 {
     match which / 32 {
         0 => any::span_view(which, nodes, n),
-        1 => declarations::span_view(which, nodes, n),
+        1 => items::span_view(which, nodes, n),
         2 => statements::span_view(which, nodes, n),
         3 => functions::span_view(which, nodes, n),
         4 => operators::span_view(which, nodes, n),
@@ -52,7 +54,7 @@ pub fn count_view(which: u32, nodes: &[u32], n: u32) -> Count
 {
     match which / 32 {
         0 => any::count_view(which, nodes, n),
-        1 => declarations::count_view(which, nodes, n),
+        1 => items::count_view(which, nodes, n),
         2 => statements::count_view(which, nodes, n),
         3 => functions::count_view(which, nodes, n),
         4 => operators::count_view(which, nodes, n),

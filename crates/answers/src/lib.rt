@@ -1,4 +1,6 @@
 // What the parts and steps of readers answer, and the tables: the operators, the flags, and which statements need no semicolon.
+#![tactic(auto)]
+
 ghost use Rattle.std.specs.Prelude.{◌≡◌, ◌&&◌, ◌+◌};
 ghost use Rattle.std.proofs.Math.Option.{some};
 ghost use Rattle.words.specs.Flag;
@@ -14,20 +16,20 @@ use stream::contains;
 use words::{binary_op, flag, node, token, unary_op};
 
 // What a list comes to with one element more, where there is one.
-#[derive(Drop)]
+#[derive(Clone, Copy)]
 pub enum Element {
     More(Unfinished),
     Missing,
 }
 
-#[derive(Drop)]
+#[derive(Clone, Copy)]
 pub struct Listed {
     pub at: Reading,
     pub it: Element,
 }
 
 // A binary operator: its token, its left and its right priority, and its number in `BinaryOp`.
-#[derive(Drop)]
+#[derive(Clone, Copy)]
 pub struct Binary {
     pub token: u32,
     pub left: u32,
@@ -35,20 +37,20 @@ pub struct Binary {
     pub op: u32,
 }
 
-#[derive(Drop)]
+#[derive(Clone, Copy)]
 pub enum Infix {
     Is(Binary),
     Nothing,
 }
 
-#[derive(Drop)]
+#[derive(Clone, Copy)]
 pub struct Operator {
     pub at: Reading,
     pub it: Infix,
 }
 
 // `Option<StmtResult>`
-#[derive(Drop)]
+#[derive(Clone, Copy)]
 pub enum StmtResult {
     Statement(u32),
     EndExprOrStmt(u32),
@@ -56,7 +58,7 @@ pub enum StmtResult {
     Nothing,
 }
 
-#[derive(Drop)]
+#[derive(Clone, Copy)]
 pub struct Stmt {
     pub at: Reading,
     pub it: StmtResult,
@@ -187,7 +189,7 @@ const NO_SEMI: [u32; 5] = [
 ];
 
 // The statements with an expression that no semicolon follows: it closes the block, or is a statement whose semicolon is missing.
-#[derive(Drop)]
+#[derive(Clone, Copy)]
 pub struct Ended {
     pub at: Reading,
     pub list: Unfinished,
@@ -196,7 +198,7 @@ pub struct Ended {
 }
 
 // A node, and whether what is read goes on.
-#[derive(Drop)]
+#[derive(Clone, Copy)]
 pub struct Longer {
     pub at: Reading,
     pub it: Unfinished,
@@ -204,7 +206,7 @@ pub struct Longer {
 }
 
 // A node and a list in it, both open.
-#[derive(Drop)]
+#[derive(Clone, Copy)]
 pub struct Two {
     pub at: Reading,
     pub outer: Unfinished,
@@ -212,14 +214,14 @@ pub struct Two {
 }
 
 // A place in a list, or its length.
-#[derive(Drop)]
+#[derive(Clone, Copy)]
 pub struct Placed {
     pub at: Reading,
     pub it: usize,
 }
 
 // Where an expression starts, and its prefix operator's node.
-#[derive(Drop)]
+#[derive(Clone, Copy)]
 pub struct Prefixed {
     pub at: Reading,
     pub start: u32,
@@ -227,7 +229,7 @@ pub struct Prefixed {
 }
 
 // A binary expression up to its right operand, and that one's priority.
-#[derive(Drop)]
+#[derive(Clone, Copy)]
 pub struct Infixed {
     pub at: Reading,
     pub it: Element,
@@ -235,7 +237,7 @@ pub struct Infixed {
 }
 
 // What goes on from an expression and is no binary operator.
-#[derive(Drop)]
+#[derive(Clone, Copy)]
 pub enum Goes {
     Member(u32),
     Call,
@@ -243,55 +245,55 @@ pub enum Goes {
     Nowhere,
 }
 
-#[derive(Drop)]
+#[derive(Clone, Copy)]
 pub struct Postfix {
     pub at: Reading,
     pub it: Goes,
 }
 
 // After `(`: an empty tuple, or what stands in the brackets begins.
-#[derive(Drop)]
+#[derive(Clone, Copy)]
 pub enum Brackets {
     Empty(u32),
     Open(Unfinished),
 }
 
-#[derive(Drop)]
+#[derive(Clone, Copy)]
 pub struct ParenStart {
     pub at: Reading,
     pub it: Brackets,
 }
 
 // A parameter up to its type: none begins; its type is `$` and a name; its type is an expression.
-#[derive(Drop)]
+#[derive(Clone, Copy)]
 pub enum Param {
     Missing,
     Any(Unfinished, u32),
     Wants(Unfinished),
 }
 
-#[derive(Drop)]
+#[derive(Clone, Copy)]
 pub struct ParamHead {
     pub at: Reading,
     pub it: Param,
 }
 
 // What an `else` begins, and where: none is there; an `if` follows; a block follows.
-#[derive(Drop)]
+#[derive(Clone, Copy)]
 pub enum Else {
     Missing,
     If(u32),
     Last,
 }
 
-#[derive(Drop)]
+#[derive(Clone, Copy)]
 pub struct ElseKind {
     pub at: Reading,
     pub it: Else,
 }
 
 // A `let` up to the colon of its type.
-#[derive(Drop)]
+#[derive(Clone, Copy)]
 pub struct LetHead {
     pub at: Reading,
     pub it: Unfinished,
@@ -300,13 +302,13 @@ pub struct LetHead {
 }
 
 // What an expression is at the start of a statement: the left side of an assignment, or whole.
-#[derive(Drop)]
+#[derive(Clone, Copy)]
 pub enum After {
     Assign,
     Whole(StmtResult),
 }
 
-#[derive(Drop)]
+#[derive(Clone, Copy)]
 pub struct AfterExpr {
     pub at: Reading,
     pub it: After,

@@ -1,4 +1,6 @@
 // The parts of readers of parameters, members, arms and statements that call no reader.
+#![tactic(auto)]
+
 ghost use Rattle.definition.specs.Prog.{memory, again};
 ghost use Rattle.definition.specs.Expressions.{fallback_arm, any_type, parameter_name, members, no_member_turn};
 ghost use Rattle.definition.specs.Statements.{end_expr_turn};

@@ -1,4 +1,6 @@
 // Answers as plain numbers, for programs in C and Rust, which have no enum of Rattle's.
+#![tactic(auto)]
+
 ghost use Rattle.std.specs.Prelude.{◌≡◌, [], ◌∷◌};
 ghost use Rattle.words.specs.Answer.{done, refused};
 ghost use Rattle.looking.specs.View.{is, answer, counts, spans};

@@ -1,4 +1,6 @@
 // The concrete syntax tree: the node functions of parser/mod.rs, over the commands of crate nodes.
+#![tactic(auto)]
+
 ghost use Rattle.std.specs.Prelude.{◌≡◌, pred};
 ghost use Rattle.definition.specs.Prog.{memory};
 ghost use Rattle.definition.specs.Nodes.{alloc_node_from, alloc_node, close_node_at, close_node, update_kind, push_child, alloc_last_token_as_node, error_node};

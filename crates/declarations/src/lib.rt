@@ -1,4 +1,6 @@
 // Constants, declarations and the file: parser/mod.rs, section "TOP-LEVEL DECLARATIONS".
+#![tactic(auto)]
+
 ghost use Rattle.definition.specs.Prog.{Loop, memory};
 ghost use Rattle.definition.specs.Tokens.{skip_until_decl_start};
 ghost use Rattle.definition.specs.Declarations.{parse_const_decl, no_decl, parse_decl, decl_turn, parse_file};

@@ -55,7 +55,7 @@ pub(crate) fn push_byte(values: &mut [u32], at: usize, count: Count, b: u32) -> 
 }
 
 // Where a stretch of plain bytes ends, and how many bytes there are then.
-#[derive(Drop)]
+#[derive(Clone, Copy)]
 pub(crate) struct Filled {
     pub count: Count,
     pub next: usize,

@@ -1,4 +1,6 @@
 // String literals: what their tokens decode to.
+#![tactic(auto)]
+
 ghost use Rattle.std.specs.Prelude.{◌≡◌, false, ◌||◌, [], ◌∷◌, ◌+◌, ◌/◌, ◌≤◌, ◌<◌, length};
 ghost use Rattle.literals.specs.Spelling.{span, word_at, token_start, token_span, spelling};
 ghost use Rattle.words.specs.Words.{token_end};
@@ -21,14 +23,14 @@ use values::{Count, Stored, digit};
 use words::report;
 
 // A character: its code point, and the byte where the next one stands.
-#[derive(Drop)]
+#[derive(Clone, Copy)]
 struct Char {
     pub code: u32,
     pub end: usize,
 }
 
 // A step of decoding: a byte of the value, or a report.
-#[derive(Drop)]
+#[derive(Clone, Copy)]
 enum Event {
     Byte(u32),
     Report {
@@ -40,7 +42,7 @@ enum Event {
 }
 
 // What one turn of decoding gives, and the byte where the next one begins.
-#[derive(Drop)]
+#[derive(Clone, Copy)]
 struct Piece {
     pub event: Event,
     pub next: usize,
@@ -175,7 +177,7 @@ fn piece_at(w: &[u8], base: usize, i: usize) -> Piece
 }
 
 // A character of a hex string: its code point, what it counts as a digit, whether it is none, and where the next one stands.
-#[derive(Drop)]
+#[derive(Clone, Copy)]
 struct HexDigit {
     pub code: u32,
     pub digit: u32,
@@ -207,7 +209,7 @@ fn hex_digit(w: &[u8], i: usize) -> HexDigit
 }
 
 // Where reading stands while a string is decoded, and how many bytes it has so far.
-#[derive(Drop)]
+#[derive(Clone, Copy)]
 pub struct Decoded {
     pub at: Reading,
     pub count: Count,
@@ -422,7 +424,7 @@ fn bad_digit(
 }
 
 // Where the digits of a hex string stand: what is decoded, whether a bad one was reported, and the byte of the next one.
-#[derive(Drop)]
+#[derive(Clone, Copy)]
 struct Digits {
     pub past: Decoded,
     pub already: bool,

@@ -1,18 +1,20 @@
 // The definition of the parser: its types are declared here, the rest stands in specs/. Of its functions only the
 // cursor's methods stand here, beside their type.
+#![tactic(auto)]
+
 ghost use Rattle.std.specs.Prelude.{◌≡◌, [], ◌-◌, ◌≤◌};
 ghost use Rattle.definition.specs.Prog.{kind_at, advanced};
 ghost use Rattle.definition.specs.Quiet.{is_quiet, quiet_end};
 
 // Where reading stands: the number of the next token, and the number that it stops at.
-#[derive(Drop)]
+#[derive(Clone, Copy)]
 pub struct Cursor {
     pub at: u32,
     pub end: u32,
 }
 
 // Where reading stands, and how much of each slice is written.
-#[derive(Drop)]
+#[derive(Clone, Copy)]
 pub struct State {
     pub cursor: Cursor,
     // `last_unexpected`: 0, or one more than the number of the token that was reported.
@@ -24,14 +26,14 @@ pub struct State {
 }
 
 // `ParseExprMode`
-#[derive(Drop)]
+#[derive(Clone, Copy)]
 pub enum Mode {
     AllowAll,
     NoPostFixCurlyBrace,
 }
 
 // `UnfinishedNode`: a node's number, and its last child so far; 0 is none.
-#[derive(Drop)]
+#[derive(Clone, Copy)]
 pub struct Unfinished {
     pub node: u32,
     pub last: u32,

@@ -1,4 +1,6 @@
 // Which node an expression is (`Expr::new` of ast/expr.rs), and the expressions that children are: operands, types, values.
+#![tactic(auto)]
+
 ghost use Rattle.std.specs.Prelude.{◌≡◌, ◌<◌};
 ghost use Rattle.looking.specs.View.{answer, turns};
 ghost use Rattle.expr.specs.Expr.{peel, struct_body, asked, whole, expr_at, expr, expr_of, type_of, value_of};

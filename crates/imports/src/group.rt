@@ -16,20 +16,20 @@ use words::token::RIGHT_CURLY;
 use words::{node, token};
 
 // A group with one item more, or that there is no item.
-#[derive(Drop)]
+#[derive(Clone, Copy)]
 enum Item {
     Some(Unfinished),
     None,
 }
 
-#[derive(Drop)]
+#[derive(Clone, Copy)]
 struct Grown {
     pub at: Reading,
     pub it: Item,
 }
 
 // A group, and how many items it has.
-#[derive(Drop)]
+#[derive(Clone, Copy)]
 struct Items {
     pub at: Reading,
     pub node: Unfinished,
@@ -37,7 +37,7 @@ struct Items {
 }
 
 // Whether a loop goes on.
-#[derive(Drop)]
+#[derive(Clone, Copy)]
 struct Going {
     pub at: Reading,
     pub on: bool,

@@ -1,4 +1,6 @@
 // Imports: `parse_import_decl` of parser/mod.rs.
+#![tactic(auto)]
+
 ghost use Rattle.std.proofs.Math.Option.{none};
 ghost use Rattle.definition.specs.Prog.{Loop, memory};
 ghost use Rattle.definition.specs.Declarations.{glob_import, group_import, import_turn, import_as, parse_import_decl};
@@ -13,7 +15,7 @@ use words::{flag, node, token};
 mod group;
 
 // The path so far, and the whole declaration's node where it ends in the path: in a star or a group.
-#[derive(Drop)]
+#[derive(Clone, Copy)]
 struct Import {
     pub at: Reading,
     pub path: Unfinished,
@@ -21,7 +23,7 @@ struct Import {
 }
 
 // The same after a turn, and whether there is another.
-#[derive(Drop)]
+#[derive(Clone, Copy)]
 struct ImportTurn {
     pub at: Reading,
     pub on: bool,

@@ -1,5 +1,7 @@
 // A source is a copy of the text with a table of its names behind it: the parser asks of each name which token was the
 // first to be spelled so, and a table made in one pass spares it a look at all tokens for each.
+#![tactic(auto)]
+
 ghost use Rattle.std.specs.Prelude.{◌≡◌, true, false, ◌&&◌, ◌≤◌, length, take};
 ghost use Rattle.reading.specs.Source.{is_told, first_of};
 ghost use Rattle.interner.specs.Same.{all_inside};

@@ -1,4 +1,6 @@
 // The lexer of Plank: `lex` gives a text's tokens as words, `spelling` the part of the text that a token covers.
+#![tactic(auto)]
+
 ghost use Rattle.std.specs.Prelude.{◌≡◌, ◌++◌, map, ◌+◌, ◌-◌, ◌≤◌, ◌<◌, length, set, take, replicate};
 ghost use Rattle.std.proofs.lemmas.List.Edits.{sets};
 ghost use Rattle.scan.specs.Lexer.{longest_text, tokens_of, word};
@@ -10,7 +12,7 @@ use utf8::{Checked, Way};
 use words::{refusal, token};
 
 // What lexing answers: the number of tokens, Eof included, or a refusal's number and place.
-#[derive(Drop)]
+#[derive(Clone, Copy)]
 pub enum Lexed {
     Tokens(usize),
     Refused(u32, usize),

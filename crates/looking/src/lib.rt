@@ -1,4 +1,6 @@
 // A look at node words: any words, any node number. The answer is the thing, none, or refusal 8 where words that are looked at were altered.
+#![tactic(auto)]
+
 ghost use Rattle.std.specs.Prelude.{◌≡◌, ◌+◌, ◌*◌, ◌<◌};
 ghost use Rattle.looking.specs.View.{answer, fields, found, counts, spans, count, node_at, look, nth, counted, turns};
 ghost use Rattle.looking.specs.View.{of, kept, nth_of, count_of, payload_of, new_of, name_of, inner_of, inner_count, new_child};
@@ -9,7 +11,7 @@ pub mod any;
 use words::{NODE_WIDTH, Node};
 
 // What a view finds: a number, none, or that the words of the node at this place were altered.
-#[derive(Drop)]
+#[derive(Clone, Copy)]
 pub enum View {
     Is(u32),
     None,
@@ -17,14 +19,14 @@ pub enum View {
 }
 
 // A node that is looked at: its fields, or that its words were altered.
-#[derive(Drop)]
+#[derive(Clone, Copy)]
 pub enum Looked {
     At(Node),
     Altered(u32),
 }
 
 // A node of a view's kind: its fields, none where it has another kind, or that its words were altered.
-#[derive(Drop)]
+#[derive(Clone, Copy)]
 pub enum Found {
     Node(Node),
     None,
@@ -32,14 +34,14 @@ pub enum Found {
 }
 
 // The tokens of a node: its first, and the one past its last.
-#[derive(Drop)]
+#[derive(Clone, Copy)]
 pub struct TokenSpan {
     pub start: u32,
     pub end: u32,
 }
 
 // The tokens that a view finds.
-#[derive(Drop)]
+#[derive(Clone, Copy)]
 pub enum Spanned {
     Is(TokenSpan),
     None,
@@ -47,7 +49,7 @@ pub enum Spanned {
 }
 
 // A count, in the place of an iterator's end.
-#[derive(Drop)]
+#[derive(Clone, Copy)]
 pub enum Count {
     Is(usize),
     None,

@@ -1,5 +1,7 @@
 // What reports, tokens, nodes and refusals are called, for people: tables of texts, which text a report has, and which characters
 // can't be shown as they are.
+#![tactic(auto)]
+
 ghost use Rattle.std.specs.Prelude.{◌≡◌};
 ghost use Rattle.messages.specs.Messages.{error_subject, subject_of, sentence_of, is_control};
 ghost use Rattle.scan.specs.Bytes.{within};
@@ -10,7 +12,7 @@ use words::{error_token, report};
 
 // What a sentence begins with: a token by its kind, a character by its code point, the character of the text that the report covers,
 // or nothing.
-#[derive(Drop)]
+#[derive(Clone, Copy)]
 pub enum Subject {
     Token(u32),
     Character(u32),

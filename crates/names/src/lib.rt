@@ -1,4 +1,6 @@
 // Names: `try_parse_ident`, `try_parse_builtin_name` and `expect_ident` of parser/mod.rs.
+#![tactic(auto)]
+
 ghost use Rattle.std.specs.Prelude.{◌≡◌};
 ghost use Rattle.definition.specs.Prog.{memory};
 ghost use Rattle.definition.specs.Nodes.{try_parse_ident, try_parse_builtin_name, expect_ident};

@@ -1,5 +1,7 @@
 // A view of a node, which keeps the node words it looks at (`NodeView` of cst/mod.rs; its `parent` is not the Rust's). Each method takes it
 // apart and asks crate looking; the functions behind them make a view of plain words and ask it.
+#![tactic(auto)]
+
 ghost use Rattle.std.specs.Prelude.{◌≡◌};
 ghost use Rattle.looking.specs.View.{answer, spans, counts, ident, name_of};
 ghost use Rattle.words.specs.Node;
@@ -7,7 +9,7 @@ ghost use Rattle.looking.specs.Any.{kind, span, child, child_count, parent};
 
 use looking::{Count, Spanned, View, any};
 
-#[derive(Drop)]
+#[derive(Clone, Copy)]
 pub struct NodeView<'a> {
     pub nodes: &'a [u32],
     pub n: u32,

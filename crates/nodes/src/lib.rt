@@ -1,4 +1,6 @@
 // The commands on nodes: a node lies in words that are lent, and is made, closed and linked here (cst/mod.rs).
+#![tactic(auto)]
+
 ghost use Rattle.std.specs.Prelude.{◌≡◌, ◌+◌, ◌*◌, ◌≤◌, length};
 ghost use Rattle.std.proofs.lemmas.List.Edits.{sets};
 ghost use Rattle.words.specs.Words.{node_width, node_words};

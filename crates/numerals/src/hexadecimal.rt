@@ -11,7 +11,7 @@ use values::{Count, digit};
 const LIMB_BASE: u64 = 4294967296;
 
 // A limb, and where the digits that it is made of begin.
-#[derive(Drop)]
+#[derive(Clone, Copy)]
 pub(crate) struct Limb {
     pub value: u32,
     pub start: usize,

@@ -1,4 +1,6 @@
 // Number literals.
+#![tactic(auto)]
+
 ghost use Rattle.std.specs.Prelude.{◌≡◌, ◌+◌, ◌*◌, ◌≤◌, ◌<◌, length, drop};
 ghost use Rattle.literals.specs.Numbers.{nibble, limbs, digits, number_value};
 ghost use Rattle.literals.specs.Spelling.{spelling};
@@ -19,7 +21,7 @@ use reading::{Maybe, Reading};
 use values::{Count, Stored, digit};
 
 // The radix of a number token.
-#[derive(Drop)]
+#[derive(Clone, Copy)]
 pub enum Base {
     Binary,
     Decimal,
@@ -36,7 +38,7 @@ fn wide(x: u32) -> u64
 }
 
 // A limb of a product, and what is carried on to the next.
-#[derive(Drop)]
+#[derive(Clone, Copy)]
 pub(crate) struct Product {
     pub limb: u32,
     pub carry: u32,
@@ -85,7 +87,7 @@ fn push(room: &mut [u32], n: usize, radix: u32, digit: u32) -> Count
 }
 
 // Four chunks of digits, the first one first: their units, or their values, or what each carries on.
-#[derive(Drop)]
+#[derive(Clone, Copy)]
 pub(crate) struct Four {
     pub a: u32,
     pub b: u32,
@@ -146,7 +148,7 @@ fn push_four(room: &mut [u32], n: usize, units: Four, values: Four) -> Count
 }
 
 // Some digits: what they make, what a number before them is multiplied by, and where the next ones stand.
-#[derive(Drop)]
+#[derive(Clone, Copy)]
 pub(crate) struct Digits {
     pub value: u32,
     pub unit: u32,
@@ -202,7 +204,7 @@ fn chunk_at(source: &[u8], i: usize, radix: u32) -> Digits
 }
 
 // How many limbs a number has with some digits more, and where the next ones stand.
-#[derive(Drop)]
+#[derive(Clone, Copy)]
 pub(crate) struct Taken {
     pub count: Count,
     pub next: usize,

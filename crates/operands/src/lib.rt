@@ -1,4 +1,6 @@
 // Operands that are literals: numbers and strings (`try_parse_num_literal` of parser/mod.rs, parser/strings.rs).
+#![tactic(auto)]
+
 ghost use Rattle.std.specs.Prelude.{◌≡◌, ◌%◌};
 ghost use Rattle.cst.specs.Payload.{payloads};
 

@@ -12,14 +12,14 @@ use reading::{Found, Maybe, Reading};
 use words::token;
 
 // The offset of a value, where there is one.
-#[derive(Drop)]
+#[derive(Clone, Copy)]
 enum Offset {
     Some(usize),
     None,
 }
 
 // That, and where reading then stands.
-#[derive(Drop)]
+#[derive(Clone, Copy)]
 struct Valued {
     pub at: Reading,
     pub it: Offset,

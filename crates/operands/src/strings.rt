@@ -13,7 +13,7 @@ use values::Count;
 use words::token;
 
 // String tokens so far: what they decode to, and the token number past the last one.
-#[derive(Drop)]
+#[derive(Clone, Copy)]
 struct Gathered {
     pub past: Decoded,
     pub end: Maybe,

@@ -1,4 +1,6 @@
 // The parser as a whole. `parse` is no public call: reading begins with the crate plank.
+#![tactic(auto)]
+
 ghost use Rattle.std.specs.Prelude.{◌≡◌, true, ◌≤◌, length};
 ghost use Rattle.definition.specs.Prog.{memory};
 ghost use Rattle.definition.specs.Parse.{token_limit, parsed};
@@ -13,7 +15,7 @@ use reading::Reading;
 use words::refusal;
 
 // What parsing answers: the counts of nodes, value words and reports, or a refusal's number and place.
-#[derive(Drop)]
+#[derive(Clone, Copy)]
 pub enum Parsed {
     Counts(u32, usize, usize),
     Refused(u32, u32),

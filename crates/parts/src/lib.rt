@@ -1,4 +1,6 @@
 // What the readers of expressions are made of: readings that call no reader themselves.
+#![tactic(auto)]
+
 ghost use Rattle.definition.specs.Prog.{memory};
 ghost use Rattle.definition.specs.Nodes.{skip_trivia_start, alloc_last_token_as_node};
 ghost use Rattle.definition.specs.Expressions.{check_binary_op, eat_unary, unwrap_or_error, access_name, member_expr, eats};

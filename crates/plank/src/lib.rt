@@ -1,4 +1,6 @@
 // The library: reading a script, and lexing it.
+#![tactic(auto)]
+
 ghost use Rattle.std.specs.Prelude.{◌≡◌, [], ◌∷◌, ◌≤◌, length};
 ghost use Rattle.words.specs.Answer.{done};
 ghost use Rattle.lexer.specs.Lex.{answer, lexed, lexed_words};
@@ -10,7 +12,7 @@ use lexer::Lexed;
 use parser::Parsed;
 
 // What reading answers: the counts of tokens, nodes, value words and reports, or a refusal's number and place.
-#[derive(Drop)]
+#[derive(Clone, Copy)]
 pub enum Outcome {
     Counts(usize, u32, usize, usize),
     Refused(u32, u32),

@@ -1,16 +1,18 @@
 // Where an offset of a text is, as people count: its line and column, both from 1, and where that line lies.
+#![tactic(auto)]
+
 ghost use Rattle.std.specs.Prelude.{◌≡◌, cond, ◌+◌, ◌-◌, ◌^◌, ◌≤◌, ◌<◌, min, length};
 ghost use Rattle.position.specs.Position.{is_newline, is_start, position_in, position_of, line_start, line_end, line_in, mark_length, source_line, behind, line_behind};
 ghost use Rattle.position.specs.Laws.{next};
 
-#[derive(Drop)]
+#[derive(Clone, Copy)]
 pub struct Position {
     pub line: usize,
     pub column: usize,
 }
 
 // A part of a text: its first offset, and the one behind its last.
-#[derive(Drop)]
+#[derive(Clone, Copy)]
 pub struct Extent {
     pub start: usize,
     pub end: usize,

@@ -1,6 +1,7 @@
-// Expressions, statements and blocks: the readers of parser/mod.rs that call one another. Their names are short, since the
-// module of their proof is named after them all; docs/DECISIONS.md has the Rust's beside them. What lies between two calls
-// of readers is one function of the crate steps.
+// Expressions, statements and blocks: the readers of parser/mod.rs that call one another, one cycle. Their names are short;
+// docs/DECISIONS.md has the Rust's beside them. What lies between two calls of readers is one function of the crate steps.
+#![tactic(auto)]
+
 ghost use Rattle.std.specs.Prelude.{◌≡◌, false};
 ghost use Rattle.std.proofs.Math.Option.{none};
 ghost use Rattle.words.specs.Token;
@@ -23,7 +24,7 @@ use stream::{check, eat, expect, turns_of};
 use words::{node, token};
 
 // The members of a struct, and whether a method was among them.
-#[derive(Drop)]
+#[derive(Clone, Copy)]
 struct MemberList {
     pub at: Reading,
     pub body: Unfinished,
@@ -31,7 +32,7 @@ struct MemberList {
 }
 
 // The else-if branches, and the else block.
-#[derive(Drop)]
+#[derive(Clone, Copy)]
 struct ElseIfs {
     pub at: Reading,
     pub list: Unfinished,
@@ -39,7 +40,7 @@ struct ElseIfs {
 }
 
 // The statements of a block, and its closing expression.
-#[derive(Drop)]
+#[derive(Clone, Copy)]
 struct Body {
     pub at: Reading,
     pub list: Unfinished,

@@ -1,4 +1,6 @@
 // What the parser's functions hand on: where reading stands, and what they answer.
+#![tactic(auto)]
+
 ghost use Rattle.std.specs.Prelude.{◌≡◌};
 ghost use Rattle.reading.specs.Does.{refused_at};
 
@@ -8,7 +10,7 @@ use definition::{State, Unfinished};
 
 // Where reading stands, and whether it was refused: a refusal's number, or 0, and its place. Once refused, it stays so:
 // each function then changes nothing that counts, so a reader needs no way out after each call.
-#[derive(Drop)]
+#[derive(Clone, Copy)]
 pub struct Reading {
     pub state: State,
     pub refusal: u32,
@@ -29,7 +31,7 @@ impl Reading {
 }
 
 // What may be missing.
-#[derive(Drop)]
+#[derive(Clone, Copy)]
 pub enum Maybe {
     Some(u32),
     None,
@@ -37,25 +39,25 @@ pub enum Maybe {
 
 // What a function answers, and where reading then stands: a number (a node's, a token's kind), a test, a node that may be
 // missing, a node that is still open.
-#[derive(Drop)]
+#[derive(Clone, Copy)]
 pub struct Got {
     pub at: Reading,
     pub it: u32,
 }
 
-#[derive(Drop)]
+#[derive(Clone, Copy)]
 pub struct Told {
     pub at: Reading,
     pub is: bool,
 }
 
-#[derive(Drop)]
+#[derive(Clone, Copy)]
 pub struct Found {
     pub at: Reading,
     pub it: Maybe,
 }
 
-#[derive(Drop)]
+#[derive(Clone, Copy)]
 pub struct Opened {
     pub at: Reading,
     pub it: Unfinished,

@@ -1,5 +1,7 @@
 // What is done where a token is not there (parser/mod.rs, `expect_check_recovery`, `skip_until_recovery_token`, and the recovery
 // branch of `parse_delimited`).
+#![tactic(auto)]
+
 ghost use Rattle.std.specs.Prelude.{◌≡◌, ◌&&◌, ltb};
 ghost use Rattle.definition.specs.Prog.{memory};
 ghost use Rattle.definition.specs.Tokens.{contains, expect_check_recovery, skip_until_recovery_token};

@@ -1,4 +1,6 @@
 // The callbacks of lexer.rs and the runs of its patterns: functions from a byte offset to where a token ends.
+#![tactic(auto)]
+
 ghost use Rattle.std.specs.Prelude.{◌≡◌, false, not, cond, ◌&&◌, ◌||◌, ◌+◌, ◌-◌, ◌≤◌, ◌<◌, eqb, length, drop, get_or};
 ghost use Rattle.words.specs.Token;
 ghost use Rattle.scan.specs.Bytes.{within, digit, ident_start, ident_part, blank, is_digit};
@@ -9,7 +11,7 @@ ghost use Rattle.scan.specs.Comments.{most_open, most_behind, behind, stepped, C
 use words::token;
 
 // A token: its kind and the offset where it ends.
-#[derive(Drop)]
+#[derive(Clone, Copy)]
 pub struct Token {
     pub kind: u32,
     pub end: usize,
@@ -165,7 +167,7 @@ fn is_pair(a: u8, b: u8, x: u8, y: u8) -> bool
 }
 
 // Where the comment reader stands, and how many comments are open there. 16 bits are enough: each took two of at most 65,536 bytes.
-#[derive(Drop)]
+#[derive(Clone, Copy)]
 struct Nest {
     depth: u16,
     at: usize,

@@ -1,4 +1,6 @@
 // Names: the first token that is spelled alike.
+#![tactic(auto)]
+
 ghost use Rattle.std.specs.Prelude.{◌≡◌, ◌&&◌, eqb};
 ghost use Rattle.words.specs.Words.{token_kind};
 ghost use Rattle.literals.specs.Spelling.{word_at, spelling, alike, first_alike};

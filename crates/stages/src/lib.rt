@@ -1,4 +1,6 @@
 // The steps of readers of functions, structs, branches and statements, as crate steps has those of expressions.
+#![tactic(auto)]
+
 ghost use Rattle.definition.specs.Prog.{memory, again};
 ghost use Rattle.definition.specs.Expressions.{members};
 ghost use Rattle.reading.specs.Does.{Does};

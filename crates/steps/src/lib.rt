@@ -1,5 +1,7 @@
 // The steps of a reader that lie between two calls of readers, each as one function: so the readers themselves are short, and
 // so are their proofs.
+#![tactic(auto)]
+
 ghost use Rattle.definition.specs.Prog.{memory};
 ghost use Rattle.reading.specs.Does.{Does};
 ghost use Rattle.cst.specs.Cst.{maybe};

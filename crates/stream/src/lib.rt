@@ -1,4 +1,6 @@
 // Tokens as the parser sees them: from `advance` to `expect` of parser/mod.rs, but for what is in crate recovery.
+#![tactic(auto)]
+
 ghost use Rattle.std.specs.Prelude.{◌≡◌, ◌||◌, List, [], ℕ, pred};
 ghost use Rattle.definition.specs.Prog.{kind_at, memory, passed, skip_trivia, is_marked, peek, pass, emit_and_mark};
 ghost use Rattle.definition.specs.Tokens.{check, eat, eof, emit_unexpected, expect, contains};

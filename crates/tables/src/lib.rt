@@ -1,5 +1,7 @@
 // Lexing from tables: the token at an offset, as the branching lexer of crate tokens answers, and `lex` over it, as crate lexer has it.
 // `fill_from` makes the tables once and lends them: a constant array is made anew wherever it stands.
+#![tactic(auto)]
+
 ghost use Rattle.std.specs.Prelude.{◌≡◌, map, true, false, ◌+◌, ◌-◌, ◌<◌, ◌≤◌, length, drop, get_or};
 ghost use Rattle.std.proofs.lemmas.List.Edits.{sets};
 ghost use Rattle.words.specs.Token as TokenKind;

@@ -1,4 +1,6 @@
 // The token at an offset: which rule of lexer.rs matches there, by the first byte.
+#![tactic(auto)]
+
 ghost use Rattle.std.specs.Prelude.{◌≡◌, [], ◌∷◌, map, true, false, cond, ◌+◌, ◌<◌, ◌≤◌, eqb, length, take, drop, get_or};
 ghost use Rattle.scan.specs.Bytes.{digit, ident_start, is_digit};
 ghost use Rattle.scan.specs.Lexer.{longest_text, from, spelled, classed, token_at, longest, no_match, rule, punctuation};
@@ -13,7 +15,7 @@ use utf8::Character;
 use words::token;
 
 // What a fixed spelling is: a kind and its length in bytes.
-#[derive(Drop)]
+#[derive(Clone, Copy)]
 pub(crate) enum Spelled {
     Is(u32, usize),
     Nothing,

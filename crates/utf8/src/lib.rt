@@ -1,11 +1,13 @@
 // UTF-8 (RFC 3629): whether a text is well-formed, and the character at an offset.
+#![tactic(auto)]
+
 ghost use Rattle.std.specs.Prelude.{◌≡◌, true, ◌+◌, ◌-◌, ◌*◌, ◌%◌, ◌≤◌, ◌<◌, length, get_or, take, drop};
 ghost use Rattle.utf8.specs.Utf8.{checked, character_at, code_point, sequence, follow};
 ghost use Rattle.utf8.specs.Rows.{ranges};
 ghost use Rattle.utf8.specs.Ascii.{Ascii};
 
 // How a sequence is wrong: its first byte starts none, a later byte is not allowed there, or the text ends inside it.
-#[derive(Drop)]
+#[derive(Clone, Copy)]
 pub enum Way {
     NoStart,
     NotAllowed,
@@ -13,21 +15,21 @@ pub enum Way {
 }
 
 // A text: well-formed, or how and at which offset its first wrong sequence is.
-#[derive(Drop)]
+#[derive(Clone, Copy)]
 pub enum Checked {
     Good,
     Bad(Way, usize),
 }
 
 // What stands at an offset: a character, as its code point and its length in bytes.
-#[derive(Drop)]
+#[derive(Clone, Copy)]
 pub enum Character {
     Is(u32, usize),
     Nothing,
 }
 
 // One sequence: right with its length, or wrong.
-#[derive(Drop)]
+#[derive(Clone, Copy)]
 enum Sequence {
     Right(usize),
     Wrong(Way),

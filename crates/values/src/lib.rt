@@ -1,4 +1,6 @@
 // Literal values: what numbers and strings share.
+#![tactic(auto)]
+
 ghost use Rattle.std.specs.Prelude.{◌≡◌};
 ghost use Rattle.words.specs.Words.{value_head};
 ghost use Rattle.values.specs.Kept.{past_words};
@@ -9,14 +11,14 @@ use definition::State;
 use reading::Reading;
 
 // How many words were stored, or that there is no room for them.
-#[derive(Drop)]
+#[derive(Clone, Copy)]
 pub enum Count {
     Words(usize),
     DontFit,
 }
 
 // The offset of a value, and where reading then stands.
-#[derive(Drop)]
+#[derive(Clone, Copy)]
 pub struct Stored {
     pub at: Reading,
     pub it: usize,

@@ -1,5 +1,7 @@
 // Views of declarations, imports, blocks and statements, on any words and any node number.
 // The answer is the thing, none, or refusal 8 where words that a view looks at were altered.
+#![tactic(auto)]
+
 pub mod declarations;
 pub mod imports;
 pub mod statements;

@@ -1,5 +1,7 @@
 // Walks over node words for an editor: up to the declaration that holds a node, and down to the innermost node that covers a token.
 // Any words, any number: each node that is passed is looked at, and a ring of links ends with none.
+#![tactic(auto)]
+
 ghost use Rattle.std.specs.Prelude.{◌≡◌};
 ghost use Rattle.looking.specs.View.{answer, turns};
 ghost use Rattle.walking.specs.Walks.{enclosing_declaration, covers, innermost, node_at_token};

@@ -1,5 +1,6 @@
 // The words that are lent to the parser: their kinds as numbers, and how each word is packed and taken apart.
 // A packed word is a high part over a low part. Whatever doesn't fit its part is cut off, so every function here is total.
+#![tactic(auto)]
 
 ghost use Rattle.std.specs.Prelude.{◌≡◌, ◌<◌};
 ghost use Rattle.words.specs.Words.{pack, high, low};

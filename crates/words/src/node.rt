@@ -103,7 +103,7 @@ pub const ERROR: u32 = 49;
 // The words of one node.
 pub const NODE_WIDTH: usize = 6;
 
-#[derive(Drop)]
+#[derive(Clone, Copy)]
 pub struct Node {
     pub kind: u32,
     pub payload: u32,

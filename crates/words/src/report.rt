@@ -36,7 +36,7 @@ pub const BACKSLASH_AT_END: u32 = 16;
 // The words of one report.
 pub const REPORT_WIDTH: usize = 3;
 
-#[derive(Drop)]
+#[derive(Clone, Copy)]
 pub struct Report {
     pub kind: u32,
     pub detail: u32,

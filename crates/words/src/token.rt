@@ -170,7 +170,7 @@ pub const UNCLOSED_STRING_ERROR: u32 = 80;
 pub const EOF: u32 = 81;
 
 // What a token that is a lexer error was, by its number in `error_token`.
-#[derive(Drop)]
+#[derive(Clone, Copy)]
 pub enum LexError {
     Is(u32),
     Nothing,
