@@ -3,7 +3,6 @@ use Rattle.std.specs.Prelude.{◌≡◌, true, List, [], ◌∷◌, ◌++◌, �
 use Rattle.std.proofs.Math.Path.{refl}
 use Rattle.std.proofs.Common.{◌∙◌, arith}
 use Rattle.std.proofs.Math.Option.{Option}
-use Rattle.std.proofs.Math.Option as Option
 use Rattle.std.proofs.Math.ListN.{length, length-append, get_or-append}
 use Rattle.words.specs.Words.{node_head}
 use Rattle.definition.specs.declared.Unfinished.{Unfinished}

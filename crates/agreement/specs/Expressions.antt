@@ -5,7 +5,6 @@ use Rattle.std.proofs.Math.Bool.{Bool}
 use Rattle.std.proofs.Common.{true≢false, arith, leb-true, leb-false, lt-ltb, le-ltb}
 use Rattle.std.proofs.lemmas.Bool.{false≢true}
 use Rattle.std.proofs.Math.Option.{Option}
-use Rattle.std.proofs.Math.Option as Option
 use Prim.Native.Nat.{ℕ, zero, suc, ◌+◌, ◌*◌, ◌<◌}
 use Rattle.words.specs.Token
 use Rattle.words.specs.Node

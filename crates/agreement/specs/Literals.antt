@@ -286,7 +286,7 @@ hex-same p q already none-same = none-like
 hex-same p q already (one_same {c} {d} e g none-same) = likes-append (bad-same already c d e) (one-like both-reports none-like)
 hex-same p q already (one_same {c} {d} e g (one_same {c = x} {d = y} f h s)) =
     rw (is-bad-same c d e, is-bad-same x y f, digit-same c d e, digit-same x y f)
-    (likes-append (bad-same already c d e) (likes-append (bad-same _ x y f) (one-like both_bytes (hex-same p q _ s))))
+    (likes-append (bad-same already c d e) (likes-append (bad-same _ x y f) (one-like both_bytes (hex-same p q (already || is_bad d || is_bad y) s))))
 
 module _ (p q : Span) (s : List ℕ) where
   string-like : Likes (decode_string p s) (decode_string q s)

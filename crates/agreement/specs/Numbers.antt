@@ -2,7 +2,6 @@
 use Rattle.std.specs.Prelude.{◌≡◌, Bool, true, false, cond, List, ◌∷◌, ◌++◌, eqb, drop}
 use Rattle.std.proofs.Math.Path.{refl}
 use Rattle.std.proofs.Math.Option.{Option}
-use Rattle.std.proofs.Math.Option as Option
 use Prim.Native.Nat.{ℕ, suc, ◌+◌, ◌<◌, ◌≤◌, ◌^◌}
 use Rattle.std.proofs.Common.{arith, lit<, length-append}
 use Rattle.std.proofs.Math.ListN.{length}
@@ -20,7 +19,7 @@ use Rattle.chart.specs.Parser.{Outcome, if, on}
 use Rattle.chart.specs.Parser as Chart
 use Rattle.tree.specs.Stored.{said, is_name}
 use Rattle.tree.specs.Grown.{Built}
-use Rattle.tree.specs.Values.{says-more, number_read}
+use Rattle.tree.proofs.Values.{says-more, number_read}
 use Rattle.agreement.specs.Run.{run}
 use Rattle.agreement.specs.Sim.{Sim, Setting, runs, lexeme_of, Fits, cost, peek-rule, pass-rule}
 use Rattle.agreement.specs.Literals.{head-parts, number-few}

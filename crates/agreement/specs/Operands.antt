@@ -3,7 +3,6 @@ use Rattle.std.proofs.Math.Path.{refl}
 use Rattle.std.proofs.Math.Bool.{true, false}
 use Rattle.std.proofs.Common.{true≢false, arith, lit<}
 use Rattle.std.proofs.Math.Option.{Option}
-use Rattle.std.proofs.Math.Option as Option
 use Rattle.std.specs.Prelude.{List, length}
 use Prim.Native.Nat.{ℕ, zero, suc, ◌<◌}
 use Rattle.words.specs.Token

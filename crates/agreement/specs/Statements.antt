@@ -4,7 +4,6 @@ use Rattle.std.proofs.Math.Path.{refl, ap}
 use Rattle.std.proofs.Common.{sym, ◌∙◌, subst, true≢false, arith, lt-ltb, eqb-true}
 use Rattle.std.proofs.Math.Bool.{true, false, not}
 use Rattle.std.proofs.Math.Option.{Option}
-use Rattle.std.proofs.Math.Option as Option
 use mathlib.Core.List.{List, [], ◌∷◌, ◌++◌}
 use Prim.Native.Nat.{ℕ, zero, suc, ◌+◌, ◌<◌, ◌≤◌}
 use Rattle.std.proofs.Math.ListN.{length, length-append, get_or-append}
@@ -259,7 +258,7 @@ module _ (s : Setting) (a : Agrees s) {B : Type 0} {P : B → World → Outcome 
   unfolding run root_kind if
   end-rule w u k c n (node kind v ts) xs ys d e f l h =
       let z : requires_semi (node_kind (word_in n head_word u.store)) ≡ not (is_block_like (node kind v ts ▸ none)) = rw (kind-read s w u n (node kind v ts) d) (semi_same kind v ts none e) in
-      rw z (on-either _ Token.RightCurly ys _ _ (λ v₁ zs q. hit v₁ zs q (is_block_like (node kind v ts ▸ none))) (λ q. miss q (is_block_like (node kind v ts ▸ none))))
+      rw (z, run) (on-either _ Token.RightCurly ys _ _ (λ v₁ zs q. hit v₁ zs q (is_block_like (node kind v ts ▸ none))) (λ q. miss q (is_block_like (node kind v ts ▸ none))))
     where
       hit : (y : Lexeme) (zs : List RowToken) → ys ≡ token Token.RightCurly y ∷ zs → (b : Bool)
           → Sim P (elim (not b) [ true ↦ k (end_expr n) u | false ↦ k (end_expr_or_stmt n) u ]) (Chart.ok (listed Node.StatementsList none (node kind v ts ▸ none)) zs)

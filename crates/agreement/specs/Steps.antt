@@ -4,7 +4,6 @@ use Rattle.std.proofs.Math.Path.{refl}
 use Rattle.std.proofs.Common.{sym, arith, le_of_eq, ltb-true, le-leb, le-ltb}
 use Rattle.std.proofs.lemmas.Bool.{false≢true}
 use Rattle.std.proofs.Math.Option.{Option}
-use Rattle.std.proofs.Math.Option as Option
 use Rattle.std.proofs.Math.ListN.{length, length-append}
 use Rattle.words.specs.Token
 use Rattle.words.specs.Node

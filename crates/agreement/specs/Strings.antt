@@ -5,7 +5,6 @@ use Rattle.std.proofs.Common.{◌∙◌, true≢false, arith, lit<}
 use Rattle.std.proofs.Math.Bool.{Bool, true, false}
 use Rattle.std.proofs.lemmas.Bool.{false≢true}
 use Rattle.std.proofs.Math.Option.{Option}
-use Rattle.std.proofs.Math.Option as Option
 use mathlib.Core.List.{List, [], ◌∷◌, ◌++◌}
 use Prim.Native.Nat.{ℕ, zero, suc, ◌+◌, ◌<◌, ◌≤◌, ◌^◌}
 use Rattle.std.proofs.Math.Dec.{eqb}
@@ -21,13 +20,13 @@ use Rattle.literals.specs.Strings.{Event, byte, report, bytes_of, decode_string,
 use Rattle.definition.specs.Prog.{Turn, again, stop, Then, Give, Branch, value}
 use Rattle.definition.specs.Nodes.{alloc_node_from, close_node_at, skip_trivia_start}
 use Rattle.definition.specs.Strings.{emit_events, StringBuf, decode_token, string_turn, try_parse_string_literal}
-use Rattle.definition.specs.Abstract.{Seen, Node, World, Fate, ok, move_to, with_value}
+use Rattle.definition.specs.Abstract.{Seen, World, Fate, ok, move_to, with_value}
 use Rattle.chart.specs.Row.{Lexeme, RowToken, token}
 use Rattle.chart.specs.Tree.{bytes, Trees, node, none, decoded, decoded_hex, quiet, string_tree}
 use Rattle.chart.specs.Parser.{Outcome, if, on, bind, failed, prepend, read_strings}
 use Rattle.chart.specs.Parser as Chart
 use Rattle.tree.specs.Stored.{said, is_name}
-use Rattle.tree.specs.Values.{string-read}
+use Rattle.tree.proofs.Values.{string-read}
 use Rattle.utf8.specs.Bytes.{AreBytes, are-bytes-append}
 use Rattle.agreement.specs.Run.{run, turns}
 use Rattle.agreement.specs.Sim.{Sim, gives, fails, Made, made, mapped, call-turns, Setting, runs, lexeme_of, Fit, Fits, cost, first-clean, peek-rule, pass-rule}

@@ -4,4 +4,3 @@ pub mod Steps
 pub mod Laws
 pub mod Same
 pub mod Programs
-pub mod Segments

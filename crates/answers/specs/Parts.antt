@@ -6,7 +6,7 @@ use Rattle.words.specs.Node
 use Rattle.words.specs.Flag
 use Rattle.words.specs.Report
 use Rattle.definition.specs.declared.Unfinished.{Unfinished}
-use Rattle.definition.specs.Prog.{Turn, again, stop, Prog, Act, give, ◌>>=◌, ◌>>◌, if◌then◌else◌, when, peek, pass, here, before, intern, emit}
+use Rattle.definition.specs.Prog.{Turn, again, stop, Prog, Act, give, ◌>>=◌, ◌>>◌, whether◌then◌else◌, when, peek, pass, here, before, intern, emit}
 use Rattle.definition.specs.Tokens.{contains, check, eat, emit_unexpected, expect, expect_check_recovery, skip_until_recovery_token, stmt_recovery}
 use Rattle.definition.specs.Nodes.{alloc_node_from, alloc_node, close_node, push_child, alloc_last_token_as_node, try_parse_ident, try_parse_builtin_name, expect_ident}
 use Rattle.definition.specs.Strings.{try_parse_string_literal}
@@ -65,10 +65,10 @@ one_of first second = do
   give (a || b)
 
 abbrev pub only_eat : Bool → ℕ → Prog Bool
-only_eat tried token = if tried then eat token else give false
+only_eat tried token = whether tried then eat token else give false
 
 abbrev pub only_check : Bool → ℕ → Prog Bool
-only_check tried token = if tried then check token else give false
+only_check tried token = whether tried then check token else give false
 
 abbrev pub past_semicolon : Act
 past_semicolon = do
@@ -180,7 +180,7 @@ plain_parameter start = do
 abbrev pub separate : Members → Prog (Turn Members)
 separate s = do
   next ← peek
-  if contains (Token.RightCurly ∷ Token.Eof ∷ Token.Eager ∷ Token.Fn ∷ []) next then give (again (members s.body s.seen_method)) else do
+  whether contains (Token.RightCurly ∷ Token.Eof ∷ Token.Eager ∷ Token.Fn ∷ []) next then give (again (members s.body s.seen_method)) else do
     expect_check_recovery Token.Comma (Token.Identifier ∷ Token.Eager ∷ Token.Fn ∷ [])
     give (again (members s.body s.seen_method))
 

@@ -6,7 +6,7 @@ use Rattle.words.specs.Node
 use Rattle.definition.specs.declared.Unfinished.{Unfinished}
 use Rattle.definition.specs.declared.Mode.{Mode}
 use Rattle.definition.specs.declared.Mode.TheVariants.{AllowAll, NoPostFixCurlyBrace}
-use Rattle.definition.specs.Prog.{Turn, again, stop, Prog, give, ◌>>=◌, ◌>>◌, loop, if◌then◌else◌, position, enter_expr, enter_block}
+use Rattle.definition.specs.Prog.{Turn, again, stop, Prog, give, ◌>>=◌, ◌>>◌, loop, whether◌then◌else◌, position, enter_expr, enter_block}
 use Rattle.definition.specs.Tokens.{if_check◌then◌else◌, expect}
 use Rattle.definition.specs.Nodes.{alloc_node_from, alloc_node, close_node, push_child}
 use Rattle.definition.specs.Expressions.{try_parse_expr, parse_expr, block_here, ElseIfs, else_turn, else_if_branch, arm_turn, parse_parameter, parse_function_signature_and_body, parse_function_def, members, member_turn, parse_struct_def, expr_element, parse_tuple_type, tuple_turn, paren_or_tuple, eager_function, try_parse_standalone_expr, try_parse_conditional, try_parse_match, call_expr, field_assign, struct_lit, eats, checks, ◌or_else◌, expr_turn, unary_priority}
@@ -31,7 +31,7 @@ indexed = if_check Token.LeftCurly then give none else try_parse_expr NoPostFixC
 
 abbrev pub typing : Unfinished → Bool → Prog Unfinished
 typing let' typed =
-    if typed
+    whether typed
     then (do
       type ← parse_expr AllowAll
       push_child let' type)
@@ -142,7 +142,7 @@ block_steps start kind = do
 
 abbrev pub comma_rest : Goes_on → Prog ℕ
 comma_rest g = do
-  u ← if g.on then loop g.node tuple_turn else give g.node
+  u ← whether g.on then loop g.node tuple_turn else give g.node
   end_node Token.RightRound u
 
 abbrev pub bracket_rest : Bracket → Prog ℕ

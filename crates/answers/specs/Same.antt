@@ -5,7 +5,7 @@ use Rattle.std.proofs.Common.{sym, ◌∙◌, arith}
 use Rattle.std.proofs.Math.Bool.{Bool, true, false}
 use Prim.Native.Nat.{ℕ, zero, suc, ◌≤◌}
 use Rattle.definition.specs.declared.State.{State}
-use Rattle.definition.specs.Prog.{Prog, Give, Then, Branch, give, ◌>>=◌, ◌>>◌, if◌then◌else◌, Memory, Out, done, refused, bind, eval}
+use Rattle.definition.specs.Prog.{Prog, Give, Then, Branch, give, ◌>>=◌, whether◌then◌else◌, Memory, Out, done, refused, bind, eval}
 use Rattle.definition.specs.Tokens.{eat, if_eat◌then◌else◌}
 use Rattle.reading.specs.declared.Reading.{Reading}
 use Rattle.reading.specs.Does.{Does, run}
@@ -80,7 +80,7 @@ module _ {text tokens : List ℕ} {d : ℕ} where
     where
       first : Bool → Prog ℕ
       first x =
-          if x then give 0 else do
+          whether x then give 0 else do
             i ← eat_first (tokens_of ws)
             give (suc i)
 
@@ -90,7 +90,7 @@ module _ {text tokens : List ℕ} {d : ℕ} where
       rest : Same text tokens d (Then (first false) (taken (way token p ws) q)) (Then (eat_first (tokens_of ws)) (taken ws q))
       rest = record { is = λ s n. unfold eval in ((assoc (eat_first (tokens_of ws)) (λ i. Give (suc i)) (taken (way token p ws) q)).is s n) }
 
-      ways : Same text tokens d (Then (eat_first (tokens_of ws)) (taken ws q)) (tried ws q) → (x : Bool) → Same text tokens d (Then (first x) (taken (way token p ws) q)) (if x then p else tried ws q)
+      ways : Same text tokens d (Then (eat_first (tokens_of ws)) (taken ws q)) (tried ws q) → (x : Bool) → Same text tokens d (Then (first x) (taken (way token p ws) q)) (whether x then p else tried ws q)
       ways e true = record { is = λ s n. unfold eval in refl }
       ways e false = record { is = λ s n. unfold eval in ((also rest e).is s n) }
 

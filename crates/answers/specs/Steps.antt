@@ -6,7 +6,7 @@ use Rattle.words.specs.Node
 use Rattle.words.specs.Flag
 use Rattle.definition.specs.declared.Mode.{Mode}
 use Rattle.definition.specs.declared.Unfinished.{Unfinished}
-use Rattle.definition.specs.Prog.{Turn, again, stop, Prog, Act, give, ◌>>=◌, ◌>>◌, if◌then◌else◌, when, position, kind_of}
+use Rattle.definition.specs.Prog.{Turn, again, stop, Prog, Act, give, ◌>>=◌, ◌>>◌, whether◌then◌else◌, when, position, kind_of}
 use Rattle.definition.specs.Tokens.{check, eat, if_eat◌then◌else◌, if_check◌then◌else◌, emit_unexpected, expect}
 use Rattle.definition.specs.Nodes.{alloc_node_from, skip_trivia_start, alloc_node, close_node, update_kind, push_child, flag, try_parse_ident, expect_ident}
 use Rattle.definition.specs.Expressions.{allows_struct_literal, member_priority, fn_call_priority, struct_literal_priority, check_binary_op, eat_unary, push_option, member_expr, any_type, parameter_name, Members, members, ◌or_else◌}
@@ -87,7 +87,7 @@ infixed min_bp start expr = do
   elim found [
     | none ↦ give none
     | some b ↦
-        if ltb b.left min_bp then give none else do
+        whether ltb b.left min_bp then give none else do
           u ← open_binary start expr b.op
           give (some (right u b.right))
   ]
@@ -106,15 +106,15 @@ postfix_of Nowhere = nowhere
 abbrev pub postfix_kind : Mode → ℕ → ℕ → ℕ → Prog Going
 postfix_kind mode min_bp start expr = do
   dot ← only_eat (ltb min_bp member_priority) Token.Dot
-  if dot
+  whether dot
       then (do
         node ← member_expr start expr
         give (member node))
       else do
         round ← only_check (ltb min_bp fn_call_priority) Token.LeftRound
-        if round then give call else do
+        whether round then give call else do
           curly ← only_check (allows_struct_literal mode && ltb min_bp struct_literal_priority) Token.LeftCurly
-          if curly then give literal_of else give nowhere
+          whether curly then give literal_of else give nowhere
 
 abbrev pub simple : Prog (Option ℕ)
 simple = literal or_else named
@@ -227,7 +227,7 @@ param_head = do
     | some parameter ↦ do
       expect Token.Colon
       dollar ← check Token.Dollar
-      if dollar
+      whether dollar
           then (do
             type ← any_type
             give (any_typed parameter type))
@@ -354,7 +354,7 @@ after_expr expr =
     else if_eat Token.Semicolon then give (whole (statement expr))
     else do
       kind ← kind_of expr
-      if requires_semi kind then give (whole (end_expr expr)) else give (whole (end_expr_or_stmt expr))
+      whether requires_semi kind then give (whole (end_expr expr)) else give (whole (end_expr_or_stmt expr))
 
 abbrev pub add_stmt : Unfinished → Option ℕ → Result → Prog (Turn Body)
 add_stmt stmts closing result =

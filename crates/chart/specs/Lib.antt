@@ -3,13 +3,5 @@ pub mod Tree
 pub mod Chart
 pub mod Parser
 pub mod Outcome
-pub mod Laws
-pub mod Levels
-pub mod First
-pub mod Rules
-pub mod Sound
-pub mod Complete
-pub mod Errors
 pub mod Renumbered
 pub mod Verbatim
-pub mod Examples

@@ -7,7 +7,7 @@ use Rattle.words.specs.Flag
 use Rattle.words.specs.UnaryOp
 use Rattle.chart.specs.Row.{Lexeme, RowToken, begins, is_over, token}
 use Rattle.chart.specs.Tree.{Trees, ◌⊕◌, branch, listed, flag, let_flags, named, builtin_named, any_type, numeral, decoded, decoded_hex, quiet, string_tree, flags, name, number, bytes, node, none, ◌▸◌}
-use Rattle.chart.specs.Chart.{Operator, operator, levels, prefix_level, binary_tree, is_block_like, block}
+use Rattle.chart.specs.Chart.{Operator, operator, levels, prefix_level, binary_tree, is_block_like}
 
 -- What a token is between two operands: no operator, or one of a level, 0 the loosest, with its payload.
 pub data Role : Type 0 where

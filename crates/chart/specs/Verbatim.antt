@@ -4,7 +4,7 @@ use Rattle.std.proofs.Common.{◌∙◌, ap, subst}
 use Rattle.words.specs.Token
 use Rattle.literals.specs.Spelling.{span}
 use Rattle.literals.specs.Strings.{byte, between}
-use Rattle.literals.specs.Verbatim.{NoBackslash, verbatim, verbatim-bytes}
+use Rattle.literals.proofs.Verbatim.{NoBackslash, verbatim, verbatim-bytes}
 use Rattle.chart.specs.Row.{Lexeme, RowToken, token}
 use Rattle.chart.specs.Tree.{quiet, string_tree}
 use Rattle.chart.specs.Chart as Chart

@@ -7,7 +7,7 @@ use Rattle.words.specs.Flag
 use Rattle.words.specs.Report
 use Rattle.definition.specs.declared.Mode.TheVariants.{AllowAll}
 use Rattle.definition.specs.declared.Unfinished.{Unfinished}
-use Rattle.definition.specs.Prog.{Turn, again, stop, Prog, Act, give, ◌>>=◌, ◌>>◌, loop, if◌then◌else◌, when, peek, pass, position, here, before, emit, enter_block}
+use Rattle.definition.specs.Prog.{Turn, again, stop, Prog, Act, give, ◌>>=◌, ◌>>◌, loop, whether◌then◌else◌, when, peek, pass, position, here, before, emit, enter_block}
 use Rattle.definition.specs.Tokens.{const_def_expr_recovery, check, if_eat◌then◌else◌, if_check◌then◌else◌, eof, emit_unexpected, skip_until_decl_start, expect, expect_check_recovery, parse_delimited}
 use Rattle.definition.specs.Nodes.{alloc_node_from, alloc_node, close_node, update_kind, push_child, flag, expect_ident}
 use Rattle.definition.specs.Expressions.{parse_expr}
@@ -167,7 +167,7 @@ parse_decl = do
 unfoldable pub decl_turn : Unfinished → Prog (Turn Unfinished)
 decl_turn file = do
   ended ← eof
-  if ended then give (stop file) else do
+  whether ended then give (stop file) else do
     decl ← parse_decl
     file ← push_child file decl
     give (again file)

@@ -1,7 +1,6 @@
 -- Worked cases of document 01.
 use Rattle.std.specs.Prelude.{◌≡◌, refl, true, List, [], ◌∷◌, ◌++◌, ℕ, replicate}
 use Prim.Native.Char.{code}
-use Prim.Native.String
 use Prim.Native.String.{String}
 use Rattle.words.specs.Token
 use Rattle.words.specs.Node

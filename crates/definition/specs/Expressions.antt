@@ -11,7 +11,7 @@ use Rattle.words.specs.Report
 use Rattle.definition.specs.declared.Mode.{Mode}
 use Rattle.definition.specs.declared.Mode.TheVariants.{AllowAll, NoPostFixCurlyBrace}
 use Rattle.definition.specs.declared.Unfinished.{Unfinished}
-use Rattle.definition.specs.Prog.{Turn, again, stop, Prog, give, ◌>>=◌, ◌>>◌, loop, if◌then◌else◌, when, peek, pass, position, here, intern, emit, close_at_start, enter_expr, enter_block}
+use Rattle.definition.specs.Prog.{Turn, again, stop, Prog, give, ◌>>=◌, ◌>>◌, loop, whether◌then◌else◌, when, peek, pass, position, here, intern, emit, close_at_start, enter_expr, enter_block}
 use Rattle.definition.specs.Tokens.{contains, check, eat, if_eat◌then◌else◌, if_check◌then◌else◌, eof, emit_unexpected, expect, expect_check_recovery, skip_until_recovery_token, parse_delimited}
 use Rattle.definition.specs.Nodes.{alloc_node_from, skip_trivia_start, alloc_node, close_node, update_kind, push_child, alloc_last_token_as_node, error_node, flag, try_parse_num_literal, try_parse_ident, try_parse_builtin_name, expect_ident}
 use Rattle.definition.specs.Strings.{try_parse_string_literal}
@@ -230,7 +230,7 @@ unfoldable pub arm_turn : Unfinished → Prog (Turn Unfinished)
 arm_turn arms = do
   closed ← check Token.RightCurly
   ended ← eof
-  if closed || ended then give (stop arms) else do
+  whether closed || ended then give (stop arms) else do
     start ← position
     arm ← if_eat Token.Else then fallback_arm start else keyed_arm
     expect Token.FatArrow
@@ -266,7 +266,7 @@ any_type = do
   start ← position
   expect Token.Dollar
   named ← expect Token.Identifier
-  if named
+  whether named
       then (do
         ident ← intern Token.Identifier
         u ← alloc_node_from start Node.ParamAnyType ident
@@ -364,7 +364,7 @@ field_turn s = do
   field ← parse_struct_field
   body ← push_child s.body field
   next ← peek
-  if contains (Token.RightCurly ∷ Token.Eof ∷ Token.Eager ∷ Token.Fn ∷ []) next then give (again (members body s.seen_method)) else do
+  whether contains (Token.RightCurly ∷ Token.Eof ∷ Token.Eager ∷ Token.Fn ∷ []) next then give (again (members body s.seen_method)) else do
     expect_check_recovery Token.Comma (Token.Identifier ∷ Token.Eager ∷ Token.Fn ∷ [])
     give (again (members body s.seen_method))
 
@@ -388,10 +388,10 @@ unfoldable pub member_turn : Members → Prog (Turn Members)
 member_turn s = do
   ended ← eof
   closed ← check Token.RightCurly
-  if ended || closed then give (stop s) else do
+  whether ended || closed then give (stop s) else do
     eager ← check Token.Eager
     fn ← check Token.Fn
-    if eager || fn then method_turn s
+    whether eager || fn then method_turn s
         else if_check Token.Identifier then field_turn s
         else no_member_turn s
 
@@ -565,14 +565,14 @@ binary_step mode min_bp start expr = do
   elim found [
     | none ↦ give none
     | some b ↦
-        if ltb b.left min_bp then give none else do
+        whether ltb b.left min_bp then give none else do
           node ← binary_expr mode start expr b
           give (some node)
   ]
 
 -- What is tried only under a condition.
 abbrev pub only_if : Bool → Prog (Option ℕ) → Prog (Option ℕ)
-only_if b p = if b then p else give none
+only_if b p = whether b then p else give none
 
 -- One turn of the loop: what goes on from the expression so far (`continue`), or the end (`break`).
 unfoldable pub expr_turn : Mode → ℕ → ℕ → ℕ → Prog (Turn ℕ)

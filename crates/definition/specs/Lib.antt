@@ -8,15 +8,6 @@ pub mod Declarations
 pub mod Parse
 pub mod Computed
 pub mod Examples
-pub mod Mono
-pub mod Progress
-pub mod Proper
-pub mod Bound
 pub mod Quiet
-pub mod Lengths
-pub mod Reserved
-pub mod Local
 pub mod Abstract
 pub mod Encodes
-pub mod Simulates
-pub mod Ends

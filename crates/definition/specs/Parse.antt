@@ -1,7 +1,6 @@
 -- The parser as a whole: `parse` of parser/mod.rs on the words of document 01.
 use Rattle.std.specs.Prelude.{List, [], ◌∷◌, ℕ, ◌+◌, min, length, replicate}
 use Rattle.words.specs.Answer.{Answer}
-use Rattle.words.specs.Answer as Answer
 use Rattle.definition.specs.declared.State.{State}
 use Rattle.definition.specs.Prog.{Memory, memory, Out, done, refused, Readers, eval, tower}
 use Rattle.definition.specs.Expressions.{try_parse_expr_min_bp}

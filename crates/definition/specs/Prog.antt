@@ -17,7 +17,7 @@ use Rattle.definition.specs.declared.State.{State}
 use Rattle.definition.specs.declared.Mode.{Mode}
 
 infixl 10 ◌>>=◌ ◌>>◌
-infixr 12 if◌then◌else◌
+infixr 12 whether◌then◌else◌
 -- A turn of a loop goes on, or is the last.
 pub data Turn (S : Type 0) : Type 0 where
   again : S → Turn S
@@ -73,8 +73,8 @@ abbrev pub ◌>>◌ : {A B : Type 0} → Prog A → Prog B → Prog B
 abbrev pub loop : {S : Type 0} → S → (S → Prog (Turn S)) → Prog S
 loop x body = Loop x body
 
-abbrev pub if◌then◌else◌ : {A : Type 0} → Bool → Prog A → Prog A → Prog A
-if◌then◌else◌ b p q = Branch b p q
+abbrev pub whether◌then◌else◌ : {A : Type 0} → Bool → Prog A → Prog A → Prog A
+whether◌then◌else◌ b p q = Branch b p q
 
 abbrev pub when : Bool → Act → Act
 when b p = Branch b p (Give tt)

@@ -7,7 +7,7 @@ use Rattle.words.specs.Flag
 use Rattle.words.specs.Report
 use Rattle.definition.specs.declared.Mode.TheVariants.{AllowAll, NoPostFixCurlyBrace}
 use Rattle.definition.specs.declared.Unfinished.{Unfinished}
-use Rattle.definition.specs.Prog.{Turn, again, stop, Prog, give, ◌>>=◌, ◌>>◌, loop, if◌then◌else◌, when, peek, pass, position, before, emit, kind_of, enter_block}
+use Rattle.definition.specs.Prog.{Turn, again, stop, Prog, give, ◌>>=◌, ◌>>◌, loop, whether◌then◌else◌, when, peek, pass, position, before, emit, kind_of, enter_block}
 use Rattle.definition.specs.Tokens.{stmt_recovery, contains, check, eat, if_eat◌then◌else◌, if_check◌then◌else◌, eof, emit_unexpected, expect, skip_until_recovery_token}
 use Rattle.definition.specs.Nodes.{alloc_node_from, alloc_node, close_node, update_kind, push_child, flag, expect_ident}
 use Rattle.definition.specs.Expressions.{try_parse_expr, parse_expr, block_here, push_option, push_closing, eats}
@@ -39,7 +39,7 @@ parse_let_stmt start comptime = do
   name ← expect_ident
   let' ← push_child let' name
   typed ← eat Token.Colon
-  let' ← if typed
+  let' ← whether typed
       then (do
         type ← parse_expr AllowAll
         push_child let' type)
@@ -110,7 +110,7 @@ expr_stmt start = do
         else if_eat Token.Semicolon then give (statement expr)
         else do
           kind ← kind_of expr
-          if requires_semi kind then give (end_expr expr) else give (end_expr_or_stmt expr)
+          whether requires_semi kind then give (end_expr expr) else give (end_expr_or_stmt expr)
   ]
 
 unfoldable pub try_parse_stmt : Prog StmtResult
@@ -138,7 +138,7 @@ unfoldable pub end_expr_turn : Unfinished → ℕ → Prog (Turn Body)
 end_expr_turn list expr = do
   closed ← check Token.RightCurly
   ended ← eof
-  if closed || ended then give (stop (body list (some expr))) else do
+  whether closed || ended then give (stop (body list (some expr))) else do
     place ← before
     emit Report.MissingSpecific Token.Semicolon place
     list ← push_child list expr

@@ -4,7 +4,7 @@ use Rattle.std.proofs.Math.Option.{Option, none, some}
 use Rattle.words.specs.Token
 use Rattle.words.specs.Node
 use Rattle.literals.specs.Strings.{Event, byte, report, bytes_of, decode_string, decode_hex, string_value}
-use Rattle.definition.specs.Prog.{Turn, again, stop, Prog, Act, give, ◌>>=◌, ◌>>◌, loop, if◌then◌else◌, peek, pass, position, here, spelling, emit, value}
+use Rattle.definition.specs.Prog.{Turn, again, stop, Prog, Act, give, ◌>>=◌, ◌>>◌, loop, whether◌then◌else◌, peek, pass, position, here, spelling, emit, value}
 use Rattle.definition.specs.Nodes.{alloc_node_from, skip_trivia_start, close_node_at}
 
 -- The reports of decoding, in their order.
@@ -33,9 +33,9 @@ string_turn b = do
   token ← peek
   place ← here
   source ← spelling
-  if eqb token Token.LooseStringLiteral then decode_token b (decode_string place source)
-      else if eqb token Token.LooseHexStringLiteral then decode_token b (decode_hex place source)
-      else if eqb token Token.MultilineStringError || eqb token Token.UnclosedStringError then decode_token b []
+  whether eqb token Token.LooseStringLiteral then decode_token b (decode_string place source)
+      else whether eqb token Token.LooseHexStringLiteral then decode_token b (decode_hex place source)
+      else whether eqb token Token.MultilineStringError || eqb token Token.UnclosedStringError then decode_token b []
       else give (stop b)
 
 -- "Neighbouring strings, trivia between them, make one literal" (01, strings.rs). The value comes before the node.

@@ -4,7 +4,7 @@ use Rattle.std.specs.Prelude.{Bool, true, false, not, ◌&&◌, ◌||◌, List, 
 use Rattle.std.proofs.Math.Option.{Option, none, some}
 use Rattle.words.specs.Token
 use Rattle.words.specs.Report
-use Rattle.definition.specs.Prog.{Turn, again, stop, Prog, Act, give, ◌>>=◌, ◌>>◌, loop, if◌then◌else◌, when, peek, pass, position, here, before, marked, emit_and_mark}
+use Rattle.definition.specs.Prog.{Turn, again, stop, Prog, Act, give, ◌>>=◌, ◌>>◌, loop, whether◌then◌else◌, when, peek, pass, position, here, before, marked, emit_and_mark}
 
 infixr 12 if_eat◌then◌else◌ if_check◌then◌else◌
 -- CONST_DEF_EXPR_RECOVERY
@@ -44,7 +44,7 @@ check token = do
 unfoldable pub eat : ℕ → Prog Bool
 eat token = do
   found ← check token
-  if found
+  whether found
       then (do
         pass
         give true)
@@ -54,12 +54,12 @@ eat token = do
 abbrev pub if_eat◌then◌else◌ : {A : Type 0} → ℕ → Prog A → Prog A → Prog A
 if_eat◌then◌else◌ token p q = do
   found ← eat token
-  if found then p else q
+  whether found then p else q
 
 abbrev pub if_check◌then◌else◌ : {A : Type 0} → ℕ → Prog A → Prog A → Prog A
 if_check◌then◌else◌ token p q = do
   found ← check token
-  if found then p else q
+  whether found then p else q
 
 unfoldable pub eof : Prog Bool
 eof = check Token.Eof
@@ -77,7 +77,7 @@ unfoldable pub skip_turn : List ℕ → Unit {0} → Prog (Turn (Unit {0}))
 skip_turn recovery _ = do
   ended ← eof
   token ← peek
-  if ended || contains recovery token then give (stop tt) else do
+  whether ended || contains recovery token then give (stop tt) else do
     pass
     give (again tt)
 
@@ -103,7 +103,7 @@ expect_check_recovery token recovery = do
   when (not eaten && not at_last_unexpected) do
     next ← peek
     number ← position
-    if contains recovery next && ltb 0 number
+    whether contains recovery next && ltb 0 number
         then (do
           place ← before
           emit_and_mark Report.MissingToken token place)
@@ -127,7 +127,7 @@ delimited_turn terminator delimiter element d = do
     | none ↦ do
       closed ← check terminator
       ended ← eof
-      if closed || ended then give (stop d) else do
+      whether closed || ended then give (stop d) else do
         when (not d.emitted) emit_unexpected
         pass
         give (again (delimited d.list true))

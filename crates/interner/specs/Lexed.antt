@@ -14,7 +14,7 @@ use Rattle.words.specs.Laws.{high-pack, low-pack}
 use Rattle.utf8.specs.Utf8.{character_at}
 use Rattle.utf8.specs.declared.Character.{Character}
 use Rattle.utf8.specs.declared.Character.TheVariants.{Is, Nothing}
-use Rattle.scan.specs.Bytes.{lower, upper, digit, ident_start, ident_part}
+use Rattle.scan.specs.Bytes.{lower, upper, digit, is_digit, ident_start, ident_part}
 use Rattle.scan.specs.Lexer.{Lexeme, lexeme, more, plain, line_comment, block_comment, number, string, Rule, regex, run, classed, matched, callback, Match, longest, Fixed, rule, punctuation, keywords, others, rules, invalid_char, no_match, finish, token_at, tokens_from, mark, has_mark, tokens_of, word}
 use Rattle.scan.specs.Fits.{token-fits, spelled-within}
 use Rattle.reading.specs.Source.{table_start, is_name}
@@ -54,12 +54,12 @@ module _ (kind : ℕ) (q : Quiet (lexeme kind 0)) where
   number-quiet : (radix : ℕ) (m : Bool) (s : List ℕ) → Quiet (number kind radix m s)
   unfolding number
   number-quiet radix m [] = kind-quiet m _ _ 0 (omega arith, refl) q
-  number-quiet radix m (b ∷ s) = either (ident_part b) _ _ (number-quiet radix _ s) (kind-quiet m _ _ 0 (omega arith, refl) q)
+  number-quiet radix m (b ∷ s) = either (ident_part b) _ _ (number-quiet radix (m || not (eqb b 95) && not (is_digit radix b)) s) (kind-quiet m _ _ 0 (omega arith, refl) q)
 
   string-quiet : (hides hidden m : Bool) (s : List ℕ) → Quiet (string kind hides hidden m s)
   unfolding string
   string-quiet hides hidden m [] = (omega arith, refl)
-  string-quiet hides hidden m (b ∷ s) = either (not hidden && eqb b 34) _ _ (kind-quiet m _ _ 1 (omega arith, refl) q) (string-quiet hides _ _ s)
+  string-quiet hides hidden m (b ∷ s) = either (not hidden && eqb b 34) _ _ (kind-quiet m _ _ 1 (omega arith, refl) q) (string-quiet hides (hides && (not hidden && eqb b 92)) _ s)
 
 -- What holds of a token that is a name: it ends before a byte that could go on in it.
 record Named (s : List ℕ) (l : Lexeme) : Type 0 where
@@ -167,7 +167,7 @@ module _ (s : List ℕ) where
   longest-named : (m : Match) (rs : List Rule) → Sound s rs → Named s (finish m s) → Named s (finish (longest m rs s) s)
   unfolding longest
   longest-named m [] none f = f
-  longest-named m (r ∷ rs) (one w h) f = longest-named _ rs h (go (ltb m.len (matched r s)) refl)
+  longest-named m (r ∷ rs) (one w h) f = longest-named (cond (ltb m.len (matched r s)) (match_of r s) m) rs h (go (ltb m.len (matched r s)) refl)
     where
       go : (t : Bool) → ltb m.len (matched r s) ≡ t → Named s (finish (cond t (match_of r s) m) s)
       go true e = w (let l = ltb-true m.len (matched r s) e in omega arith)

@@ -1,7 +1,6 @@
 pub mod Spelling
 pub mod Numbers
 pub mod Strings
-pub mod Verbatim
 pub mod Reserved
 pub mod Laws
 pub mod Written

@@ -310,6 +310,7 @@ module _ (ns : List ℕ) where
 
     nth-same : (g : ℕ → ℕ → ℕ → Seen ℕ) → Nth g → (k at : ℕ) → Ends ns k at → (i : ℕ) → g k at i ≡ nth k stop from to ns at i
     unfolding nth and_then
+    nth-same g line zero at x' i = elim x' [ ]
     nth-same g line (suc k) at (over _) i = line k at i
     nth-same g line (suc k) at (altered _ _ number place e) i = line k at i ∙ rw (← e)
     nth-same g line (suc k) at (goes _ _ f e w) i = line k at i ∙ rw (← e, nth-same g line k f.next w (i - 1), nth-same g line k f.next w i)
@@ -327,6 +328,7 @@ module _ (ns : List ℕ) where
 
     counted_same : (g : ℕ → ℕ → ℕ → Seen ℕ) → Counted g → (k at : ℕ) → Ends ns k at → (sum : ℕ) → g k at sum ≡ counted k stop from to ns at sum
     unfolding counted and_then
+    counted_same g line zero at x' sum = elim x' [ ]
     counted_same g line (suc k) at (over _) sum = line k at sum
     counted_same g line (suc k) at (altered _ _ number place e) sum = line k at sum ∙ rw (← e)
     counted_same g line (suc k) at (goes _ _ f e w) sum = line k at sum ∙ rw (← e, counted_same g line k f.next w _)

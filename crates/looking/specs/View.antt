@@ -7,11 +7,8 @@ use Rattle.words.specs.declared.node.Node.{Node as Fields}
 use Rattle.looking.specs.declared.Looked.{Looked}
 use Rattle.looking.specs.declared.Looked.TheVariants.{At, Altered}
 use Rattle.looking.specs.declared.Found.{Found}
-use Rattle.looking.specs.declared.Found.TheVariants as Found
 use Rattle.looking.specs.declared.Count.{Count}
-use Rattle.looking.specs.declared.Count.TheVariants as Count
 use Rattle.looking.specs.declared.Spanned.{Spanned}
-use Rattle.looking.specs.declared.Spanned.TheVariants as Spanned
 use Rattle.looking.specs.declared.TokenSpan.{TokenSpan}
 use Rattle.looking.specs.declared.View.{View}
 use Rattle.looking.specs.declared.View.TheVariants.{Is, None, Refused}

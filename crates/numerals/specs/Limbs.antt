@@ -58,7 +58,7 @@ module _ (radix : ℕ) where
   pub multiplied-length : (c : ℕ) (ls : List ℕ) → length (multiplied c ls) ≡ length ls
   unfolding multiplied
   multiplied-length c [] = refl
-  multiplied-length c (l ∷ ls) = ap suc (multiplied-length _ ls)
+  multiplied-length c (l ∷ ls) = ap suc (multiplied-length ((l * radix + c) / limb_base) ls)
 
   module _ (pos : 0 < radix) where
     grown : (n c : ℕ) → 0 < n → 0 < n * radix + c

@@ -4,7 +4,7 @@ use Rattle.std.proofs.Common.{◌∙◌, append-nil, arith, ne_eqb, eqb-true, ta
 use Rattle.std.proofs.Math.Option.{Option, none, some}
 use Rattle.words.specs.Node
 use Rattle.literals.specs.Strings.{fours, string_value}
-use Rattle.definition.specs.Prog.{Prog, give, ◌>>=◌, ◌>>◌, loop, peek, value, Memory, memory}
+use Rattle.definition.specs.Prog.{Prog, give, ◌>>=◌, loop, peek, value, Memory, memory}
 use Rattle.definition.specs.Nodes.{alloc_node_from, close_node_at, skip_trivia_start}
 use Rattle.definition.specs.Strings.{string_turn, try_parse_string_literal}
 use Rattle.reading.specs.declared.Maybe.{Maybe}

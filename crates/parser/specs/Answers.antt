@@ -3,7 +3,6 @@ use Rattle.std.specs.Prelude.{◌≡◌, cond, List, [], ◌∷◌, ℕ, ◌≤�
 use Rattle.std.proofs.Math.Path.{ap}
 use Rattle.std.proofs.Common.{eq-eqb, ne_eqb, lt-ltb, le-ltb}
 use Rattle.words.specs.Answer.{Answer}
-use Rattle.words.specs.Answer as Answer
 use Rattle.words.specs.Refusal
 use Rattle.lexer.specs.Lexer.{longest_text}
 use Rattle.definition.specs.Prog.{Memory, Out, done, refused}

@@ -9,7 +9,6 @@ use Rattle.literals.specs.Spelling as Source
 use Rattle.literals.specs.Spelling.{first_alike}
 use Rattle.definition.specs.declared.State.{State}
 use Rattle.definition.specs.declared.Mode.{Mode}
-use Rattle.definition.specs.Prog
 use Rattle.definition.specs.Prog.{Prog, Turn, again, stop, Memory, Out, done, refused, bind, Readers, kind_at, passed, skipped, iter, eval, tower}
 use Rattle.definition.specs.Expressions.{try_parse_expr_min_bp}
 use Rattle.definition.specs.Statements.{parse_block}

@@ -20,7 +20,7 @@ use Rattle.parser.specs.Answers as Parser
 use Rattle.parser.specs.Answers.{zeroed, parsed_text, text-short}
 use Rattle.reader.specs.Read.{Read, Lent, after, after_lexing, reads}
 use Rattle.reader.specs.Demand.{Agrees}
-use Rattle.reader.specs.Joined.{agrees-of}
+use Rattle.reader.proofs.Joined.{agrees-of}
 use Rattle.plank.specs.declared.Outcome.{Outcome}
 use Rattle.plank.specs.declared.Outcome.TheVariants.{Counts, Refused}
 

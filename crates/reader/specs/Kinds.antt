@@ -95,7 +95,7 @@ rules-sound =
 longest-low : (s : List ℕ) (m : Match) {rs : List Rule} → Sound rs → Lows m.after → Lows (longest m rs s).after
 unfolding longest
 longest-low s m none h = h
-longest-low s m (one {r} w l) h = longest-low s _ l (go (ltb m.len (matched r s)))
+longest-low s m (one {r} w l) h = longest-low s (cond (ltb m.len (matched r s)) (record { len = matched r s; after = callback r }) m) l (go (ltb m.len (matched r s)))
   where
     go : (t : Bool) → Lows (cond t (record { len = matched r s; after = callback r }) m).after
     go true = w

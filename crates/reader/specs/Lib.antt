@@ -5,4 +5,3 @@ pub mod Rows
 pub mod Demand
 pub mod Marked
 pub mod Reserved
-pub mod Joined

@@ -25,7 +25,7 @@ use Rattle.literals.specs.Spelling.{span, word_at, token_start, covered, spellin
 use Rattle.chart.specs.Row.{RowToken, token, Lexeme, is_blank, row_from, row}
 use Rattle.chart.specs.Tree.{Trees}
 use Rattle.chart.specs.Chart.{Derives, file}
-use Rattle.chart.specs.Errors.{NoErrors, no-error-more, derived-clean}
+use Rattle.chart.proofs.Errors.{NoErrors, no-error-more, derived-clean}
 use Rattle.chart.specs.Renumbered.{renumbered, renumber}
 use Rattle.tree.specs.Stored.{stored}
 use Rattle.reader.specs.Demand.{row_of, Derived, Agreed}
@@ -62,6 +62,8 @@ module _ (t ws vs : List ℕ) (m : ℕ) (m-end : token_end m ≡ 3) (l : Later w
   row-later : (us ys : List ℕ) → Later us ys → (i : ℕ) → i + length us ≡ length ws → row_from (mark ++ t) (m ∷ vs) (suc i) ys ≡ renumbered suc (row_from t ws i us)
   unfolding row_from renumbered
   row-later [] [] none i h = refl
+  row-later [] (y ∷ ys) r i h = elim r [ ]
+  row-later (u ∷ us) [] r i h = elim r [ ]
   row-later (u ∷ us) (y ∷ ys) (next k e r) i h = rw (k, spelled-later i (omega arith), row-later us ys r (suc i) (omega arith)) (go (is_blank (token_kind u)))
     where
       go : (b : Bool) → cond b (renumbered suc (row_from t ws (suc i) us)) (token (token_kind u) (record { number = suc i; spelling = spelling t ws i }) ∷ renumbered suc (row_from t ws (suc i) us))

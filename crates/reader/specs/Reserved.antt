@@ -3,7 +3,7 @@ use Rattle.std.specs.Prelude.{List, ℕ, get_or, take}
 use Rattle.words.specs.Answer.{Answer, done, refused}
 use Rattle.lexer.specs.Lex.{lexed, lexed_words}
 use Rattle.definition.specs.Parse.{Parsed}
-use Rattle.definition.specs.Reserved.{NoneReserved, none_yet, parsed-none}
+use Rattle.definition.proofs.Reserved.{NoneReserved, none_yet, parsed-none}
 use Rattle.reader.specs.Read.{Lent, after, parsing, after_lexing, reads}
 
 after_none : (lent : Lent) (tokens : List ℕ) (n : ℕ) (p : Parsed) (a : Answer) → NoneReserved p.words.reports → NoneReserved (after lent tokens n p a).reports

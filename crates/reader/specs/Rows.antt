@@ -33,9 +33,9 @@ use Rattle.definition.specs.Quiet.{word-inside}
 use Rattle.definition.specs.Parse.{token_limit}
 use Rattle.definition.specs.Abstract.{Seen, good, bad, stray, seen, Passed, none_passed, one-passed, ReadersA}
 use Rattle.definition.specs.Abstract.{row_from as seen_from}
-use Rattle.definition.specs.Ends.{AtEnd, nothing_left, eof-left}
+use Rattle.definition.proofs.Ends.{AtEnd, nothing_left, eof-left}
 use Rattle.chart.specs.Row.{RowToken, token, is_blank, row_from, row}
-use Rattle.chart.specs.Errors.{NoErrors, no-error-more}
+use Rattle.chart.proofs.Errors.{NoErrors, no-error-more}
 use Rattle.chart.specs.Parser.{Readers}
 use Rattle.tree.specs.Rows.{Clean, clean, also, lexeme, lexemes, rows_same}
 use Rattle.agreement.specs.Sim.{Setting, cost, Ahead, eof-ahead, next}

@@ -231,7 +231,7 @@ module _ {w : List ℕ} {count : ℕ} {H : List Slot} (start kind payload : ℕ)
 
 -- ---- a child linked
 
-held_on : {st su : List Node} {H : List Slot} {n a : ℕ} → length su ≡ length st → ((i : ℕ) → i ≢ n → (node_at su i).kids ≡ (node_at st i).kids) → ((i : ℕ) → i ≢ a → (node_at su i).own ≡ (node_at st i).own) → Apart n H → Apart a H → Held st H → Held su H
+held_on : {st su : List Node} {n a : ℕ} {H : List Slot} → length su ≡ length st → ((i : ℕ) → i ≢ n → (node_at su i).kids ≡ (node_at st i).kids) → ((i : ℕ) → i ≢ a → (node_at su i).own ≡ (node_at st i).own) → Apart n H → Apart a H → Held st H → Held su H
 held_on e k o none-there none-there empty = empty
 held_on e k o (apart p p₁) (apart q q₁) (more {x = y} x r h) =
     more (holds_kept (omega (arith, e)) (o (node_in y) (λ i. q (sym i))) (k (node_in y) (λ i. p (sym i))) x) r (held_on e k o p₁ q₁ h)

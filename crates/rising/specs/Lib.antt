@@ -2,11 +2,4 @@ pub mod Linked
 pub mod Weights
 pub mod Forest
 pub mod Sound
-pub mod Rules
-pub mod Steps
-pub mod Programs
-pub mod Readers
-pub mod Statements
-pub mod Files
 pub mod Family
-pub mod Parsed

@@ -3,7 +3,7 @@ use Rattle.std.specs.Prelude.{◌≡◌, refl, ◌≢◌, List, [], ◌∷◌, �
 use Rattle.std.proofs.Common.{sym, ◌∙◌, ap, arith}
 use Rattle.definition.specs.Prog.{next_word, child_word}
 use Rattle.definition.specs.Abstract.{Node, node_at}
-use Rattle.definition.specs.Encodes.{place, next, parent_of, first_kid, Kids, kid, Encodes}
+use Rattle.definition.specs.Encodes.{place, next, parent_of, first_kid, Kids, nobody, kid, Encodes}
 
 -- A link to node i among the words of so many nodes: node p's word j, the one for its next sibling or the one for its first child, holds i.
 pub data Link (w : List ℕ) (count i p : ℕ) : ℕ → Type 0 where
@@ -49,6 +49,7 @@ first-in x (y ∷ ys) = later (first-in y ys)
 module _ (w : List ℕ) (st : List Node) where
   -- A child is below the bound and has the parent.
   kid-own : {o b n c : ℕ} {xs : List ℕ} → Kids w st o b n xs → In c xs → (0 < c) × (c < b) × ((node_at st c).own ≡ o)
+  kid-own nobody r = elim r [ ]
   kid-own (kid z l q e k) (first r) = rw r (z, l, q)
   kid-own (kid z l q e k) (later r) = let h : _ = kid-own k r in (h.0, omega (arith, h.1), h.2)
 
@@ -59,6 +60,7 @@ module _ (w : List ℕ) (st : List Node) where
 
   -- One of the two stands there.
   behind : {o b n m : ℕ} {xs : List ℕ} → Kids w st o b n xs → In m xs → Behind n m xs
+  behind nobody r = elim r [ ]
   behind (kid z l q e k) (first r) = last (rw r e)
   behind {n = n} {m = m} (kid {x = x} {xs = xs} z l q e k) (later r) = go (behind k r)
     where
@@ -76,6 +78,7 @@ module _ (w : List ℕ) (st : List Node) where
 
   -- Two children with the same next one are the same.
   next-same : {o b n m i c : ℕ} {xs : List ℕ} → Kids w st o b n xs → In m xs → In i xs → m < c → i < c → next w m ≡ c → next w i ≡ c → m ≡ i
+  next-same nobody r s f g h j = elim r [ ]
   next-same (kid z l q e k) (first r) (first s) f g h j = omega arith
   next-same (kid {x = x} z l q e k) (first r) (later s) f g h j = absurd (omega (arith, behind-most k s (omega arith)))
   next-same (kid {x = x} z l q e k) (later r) (first s) f g h j = absurd (omega (arith, behind-most k r (omega arith)))
@@ -83,7 +86,9 @@ module _ (w : List ℕ) (st : List Node) where
 
   -- The first child is the least of the row.
   first-least : {o b n m : ℕ} {xs : List ℕ} → Kids w st o b n xs → In m xs → first_kid xs ≤ m
+  first-least nobody r = elim r [ ]
   first-least (kid {xs = []} z l q e k) (first r) = omega arith
+  first-least (kid {xs = []} z l q e k) (later r) = elim r [ ]
   first-least (kid {xs = y ∷ ys} z l q e k) (first r) = omega (arith, (kid-own k (first-in y ys)).1)
   first-least (kid {xs = y ∷ ys} z l q e k) (later r) = first-least k r
 
@@ -94,7 +99,9 @@ module _ (w : List ℕ) (st : List Node) where
 
   -- One of the two it is.
   before : {o b n i : ℕ} {xs : List ℕ} → Kids w st o b n xs → In i xs → Before i xs
+  before nobody r = elim r [ ]
   before (kid {xs = []} z l q e k) (first r) = nothing (sym r)
+  before (kid {xs = []} z l q e k) (later r) = elim r [ ]
   before (kid {xs = y ∷ ys} z l q e (kid a b c d f)) (first r) = after y (later (first refl)) (d ∙ sym r)
   before {i = i} (kid {x = x} {xs = y ∷ ys} z l q e k) (later r) = go (before k r)
     where
@@ -109,7 +116,9 @@ module _ (w : List ℕ) (st : List Node) where
 
     -- A row of children are children where its first one is.
     row-child : {p o b n i : ℕ} {xs : List ℕ} → get_or w (place p child_word) 0 ≡ first_kid xs → Kids w st o b n xs → In i xs → Child w p i
+    row-child {xs = []} f k r = elim r [ ]
     row-child {xs = x ∷ []} f (kid z l q e k) (first r) = rw r (eldest z f)
+    row-child {xs = x ∷ []} f (kid z l q e k) (later r) = elim r [ ]
     row-child {xs = x ∷ (y ∷ ys)} f (kid z l q e (kid a b c d g)) (first r) = rw r (younger (row-child f (kid a b c d g) (first refl)) z d)
     row-child {xs = x ∷ (y ∷ ys)} f (kid z l q e k) (later r) = row-child f k r
 

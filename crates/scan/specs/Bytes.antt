@@ -1,7 +1,6 @@
 -- Bytes of ASCII characters, and the classes of bytes that the lexer's patterns name.
 use Rattle.std.specs.Prelude.{List, [], ◌∷◌, Bool, false, cond, ◌&&◌, ◌||◌, ℕ, ◌+◌, ◌-◌, leb, ltb, eqb}
 use Prim.Native.Char.{code}
-use Prim.Native.String
 use Prim.Native.String.{String}
 
 -- The bytes of a text of ASCII characters, so that spellings stand as they are written.

@@ -53,7 +53,7 @@ block_within (a ∷ b ∷ s) depth =
 number-within : (kind radix : ℕ) (m : Bool) → Within (number kind radix m)
 unfolding number
 number-within kind radix m [] = omega arith
-number-within kind radix m (b ∷ s) = go (ident_part b) (number-within kind radix _ s)
+number-within kind radix m (b ∷ s) = go (ident_part b) (number-within kind radix (m || not (eqb b 95) && not (is_digit radix b)) s)
   where
     m' : Bool
     m' = m || (not (eqb b 95) && not (is_digit radix b))
@@ -66,7 +66,7 @@ string-within : (kind : ℕ) (hides hidden m : Bool) → Within (string kind hid
 unfolding string
 string-within kind hides hidden m [] = omega arith
 string-within kind hides hidden m (b ∷ s) =
-    either (not hidden && eqb b 34) _ 1 _ (length s) (omega arith) (string-within kind hides _ _ s)
+    either (not hidden && eqb b 34) _ 1 _ (length s) (omega arith) (string-within kind hides (hides && (not hidden && eqb b 92)) _ s)
 
 -- A rule matches no more than there is, and its callback takes no more than is left.
 pub spelled-within : (w s : List ℕ) → spelled w s ≡ true → length w ≤ length s
@@ -127,7 +127,7 @@ data Fit (s : List ℕ) : Match → Type 0 where
 longest-fits : (s : List ℕ) (m : Match) (rs : List Rule) → Sound rs → Fit s m → Fit s (longest m rs s)
 unfolding longest
 longest-fits s m [] none f = f
-longest-fits s m (r ∷ rs) (one w h) f = longest-fits s _ rs h (go (ltb m.len (matched r s)) refl)
+longest-fits s m (r ∷ rs) (one w h) f = longest-fits s (cond (ltb m.len (matched r s)) (record { len = matched r s; after = callback r }) m) rs h (go (ltb m.len (matched r s)) refl)
   where
     go : (t : Bool) → ltb m.len (matched r s) ≡ t → Fit s (cond t (record { len = matched r s; after = callback r }) m)
     go true e = let g = ltb-true m.len (matched r s) e in some {m = record { len = matched r s; after = callback r }} (omega arith) (matched-within r s) w
@@ -155,7 +155,7 @@ token-fits b s = finish-fits b s _ (longest-fits (b ∷ s) no_match rules rules-
 pub longest-within : (s : List ℕ) (m : Match) (rs : List Rule) → m.len ≤ length s → (longest m rs s).len ≤ length s
 unfolding longest
 longest-within s m [] h = h
-longest-within s m (r ∷ rs) h = longest-within s _ rs (go (ltb m.len (matched r s)))
+longest-within s m (r ∷ rs) h = longest-within s (cond (ltb m.len (matched r s)) (record { len = matched r s; after = callback r }) m) rs (go (ltb m.len (matched r s)))
   where
     go : (t : Bool) → (cond t (record { len = matched r s; after = callback r }) m).len ≤ length s
     go true = matched-within r s

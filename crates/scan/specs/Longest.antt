@@ -35,7 +35,7 @@ took-if m r rs s k false e h = keep m r rs s (omega arith)
 pub longest-append : (m : Match) (xs ys : List Rule) (s : List ℕ) → longest m (xs ++ ys) s ≡ longest (longest m xs s) ys s
 unfolding longest
 longest-append m [] ys s = refl
-longest-append m (r ∷ xs) ys s = longest-append _ xs ys s
+longest-append m (r ∷ xs) ys s = longest-append (cond (ltb m.len (matched r s)) (record { len = matched r s; after = callback r }) m) xs ys s
 
 -- A byte of a class is none that is outside it.
 pub differs : (q : Class) (a b : ℕ) → q a ≡ false → q b ≡ true → eqb a b ≡ false

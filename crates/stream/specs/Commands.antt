@@ -8,7 +8,7 @@ use Rattle.words.specs.Token
 use Rattle.literals.specs.declared.Span.{Span}
 use Rattle.literals.specs.Spelling.{span, token_start, word_at}
 use Rattle.definition.specs.declared.Cursor.{Cursor}
-use Rattle.definition.specs.Prog.{Act, Turn, again, stop, ◌>>=◌, ◌>>◌, if◌then◌else◌, Memory, done, kind_at, advanced, passed, skip_trivia, is_marked, marked_here, peek, pass, here, before, marked, position, emit, emit_and_mark, eval}
+use Rattle.definition.specs.Prog.{Act, Turn, again, stop, ◌>>=◌, whether◌then◌else◌, Memory, done, kind_at, advanced, passed, skip_trivia, is_marked, marked_here, peek, pass, here, before, marked, position, emit, emit_and_mark, eval}
 use Rattle.definition.specs.Tokens.{contains, emit_unexpected}
 use Rattle.reading.specs.declared.Reading.{Reading}
 use Rattle.reading.specs.Does.{Does, view, from, run, then-view}
@@ -72,7 +72,7 @@ abbrev pub missing : ℕ → List ℕ → Act
 missing token recovery = do
   next ← peek
   number ← position
-  if contains recovery next && ltb 0 number
+  whether contains recovery next && ltb 0 number
       then (do
         place ← before
         emit_and_mark Report.MissingToken token place)

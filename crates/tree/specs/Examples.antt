@@ -1,9 +1,7 @@
 -- Worked cases: free of reports, the words that parsing leaves hold the tree that the parser of rows makes; where there is a report it makes none.
 use Rattle.std.specs.Prelude.{◌≡◌, refl, Bool, true, false, cond, List, [], ◌∷◌, ◌++◌, ℕ, ◌+◌, eqb, get_or}
 use Rattle.std.proofs.Math.Option.{Option}
-use Rattle.std.proofs.Math.Option as Option
 use Prim.Native.Char.{code}
-use Prim.Native.String
 use Prim.Native.String.{String}
 use Rattle.utf8.specs.Utf8
 use Rattle.words.specs.Token

@@ -2,7 +2,6 @@
 -- read through its payloads" (01, The wall chart). Where links don't end or lead out, or a payload leads to no value, there is none.
 use Rattle.std.specs.Prelude.{Bool, true, false, cond, ◌&&◌, ◌||◌, List, [], ◌∷◌, ℕ, zero, suc, ◌+◌, ◌*◌, ◌/◌, ◌%◌, eqb, ltb, leb, length, get_or, take, drop}
 use Rattle.std.proofs.Math.Option.{Option}
-use Rattle.std.proofs.Math.Option as Option
 use Rattle.words.specs.declared.node.Node.{Node as Words}
 use Rattle.words.specs.Node
 use Rattle.words.specs.Value as Tag

@@ -6,10 +6,6 @@ pub mod Table
 pub mod Example
 pub mod Looks
 pub mod Stands
-pub mod Answers
-pub mod Proved
 pub mod Unrefused
 pub mod Walked
 pub mod Climbs
-pub mod Descends
-pub mod Walks

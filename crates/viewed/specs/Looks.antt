@@ -8,7 +8,7 @@ use Rattle.lexer.specs.Lex.{lexed, lexed_words}
 use Rattle.definition.specs.Prog.{head_word, next_word, child_word, parent_word}
 use Rattle.definition.specs.Encodes.{place, next, parent_of}
 use Rattle.rising.specs.Sound.{Sound, Next, last, rises}
-use Rattle.rising.specs.Parsed.{parsed-sound}
+use Rattle.rising.proofs.Parsed.{parsed-sound}
 use Rattle.reader.specs.Read.{Lent, after, parsing, after_lexing, reads}
 use Rattle.looking.specs.View
 use Rattle.looking.specs.View.{is, look, node_at}

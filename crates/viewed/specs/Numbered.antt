@@ -2,7 +2,6 @@
 -- parts, and the answer is to be the one, not the other.
 use Rattle.std.specs.Prelude.{◌≡◌, cond, List, [], ◌∷◌, ℕ, zero, suc, eqb}
 use Rattle.std.proofs.Math.Option.{Option}
-use Rattle.std.proofs.Math.Option as Option
 use Rattle.words.specs.Node
 use Rattle.chart.specs.Tree.{Value, flags, name, number, bytes, Trees, ◌▸◌}
 use Rattle.chart.specs.Tree as Tree

@@ -11,7 +11,6 @@ use Rattle.looking.specs.View
 use Rattle.looking.specs.View.{Seen, is, none, and_then, or_else, look, node_at, among, no_stop, turns}
 use Rattle.expr.specs.Expr
 use Rattle.viewed.specs.Query.{Sort, node, number, Query, OnWords, seen, span-of}
-use Rattle.viewed.specs.Query as Query
 use Rattle.viewed.specs.Viewed.{Counted, Unrefused, gives, finds-none, NeverRefused}
 use Rattle.viewed.specs.Looks.{looked, child-inside, next-inside, reads-sound}
 

@@ -1,5 +1,5 @@
 -- Laws of the words, each over the width k of the low part, and that what 01 puts into each part fits there.
-use Rattle.std.specs.Prelude.{◌≡◌, refl, ℕ, ◌+◌, ◌-◌, ◌*◌, ◌%◌, ◌^◌, ◌<◌, ◌≤◌, length}
+use Rattle.std.specs.Prelude.{◌≡◌, refl, ℕ, ◌+◌, ◌-◌, ◌*◌, ◌/◌, ◌%◌, ◌^◌, ◌<◌, ◌≤◌, length}
 use Rattle.std.proofs.Common.{ap, ap₂, ◌∙◌, subst, mod-lt, mod-eq_of_lt, div-lt_iff_lt-mul, arith, pow_pos, pow-add, lit<}
 use Rattle.std.proofs.Math.Path.{subst⁻¹}
 use Rattle.std.proofs.Math.Pow as Pow
@@ -20,17 +20,27 @@ whole k k≤ =
     let e : 32 ≡ 32 - k + k = omega arith in
     ap (λ (n : ℕ). 2 ^ n) e ∙ pow-add 2 (32 - k) k
 
+-- the parts of what is packed, as numbers. The laws of the words cite these, and not one another: a definition that is wrong breaks each by itself.
+high-number : (k h l : ℕ) → h < 2 ^ (32 - k) → (h % 2 ^ (32 - k) * 2 ^ k + l % 2 ^ k) / 2 ^ k ≡ h
+high-number k h l h< = Pow.high (h % 2 ^ (32 - k)) k (mod-lt l (pow_pos k)) ∙ mod-eq_of_lt h<
+
+low-number : (k h l : ℕ) → l < 2 ^ k → (h % 2 ^ (32 - k) * 2 ^ k + l % 2 ^ k) % 2 ^ k ≡ l
+low-number k h l l< = Pow.low (h % 2 ^ (32 - k)) k (mod-lt l (pow_pos k)) ∙ mod-eq_of_lt l<
+
+high-below : (k w : ℕ) → k ≤ 32 → w < 2 ^ 32 → w / 2 ^ k < 2 ^ (32 - k)
+high-below k w k≤ w< = (div-lt_iff_lt-mul (pow_pos k)).1 (subst (λ (n : ℕ). w < n) (whole k k≤) w<)
+
 pub high-pack : (k h l : ℕ) → h < 2 ^ (32 - k) → high k (pack k h l) ≡ h
 unfolding pack high
-high-pack k h l h< = Pow.high (h % 2 ^ (32 - k)) k (mod-lt l (pow_pos k)) ∙ mod-eq_of_lt h<
+high-pack = high-number
 
 pub low-pack : (k h l : ℕ) → l < 2 ^ k → low k (pack k h l) ≡ l
 unfolding pack low
-low-pack k h l l< = Pow.low (h % 2 ^ (32 - k)) k (mod-lt l (pow_pos k)) ∙ mod-eq_of_lt l<
+low-pack = low-number
 
 pub high_fits : (k w : ℕ) → k ≤ 32 → w < 2 ^ 32 → high k w < 2 ^ (32 - k)
 unfolding high
-high_fits k w k≤ w< = (div-lt_iff_lt-mul (pow_pos k)).1 (subst (λ (n : ℕ). w < n) (whole k k≤) w<)
+high_fits = high-below
 
 pub low_fits : (k w : ℕ) → low k w < 2 ^ k
 unfolding low
@@ -43,16 +53,18 @@ pack-fits k h l k≤ = subst⁻¹ (λ (n : ℕ). pack k h l < n) (whole k k≤) 
 pub pack-high-low : (k w : ℕ) → k ≤ 32 → w < 2 ^ 32 → pack k (high k w) (low k w) ≡ w
 unfolding pack high low
 pack-high-low k w k≤ w< =
-    ap₂ (λ (h l : ℕ). h * 2 ^ k + l) (mod-eq_of_lt (high_fits k w k≤ w<)) (mod-eq_of_lt (low_fits k w)) ∙ Pow.split w k
+    ap₂ (λ (h l : ℕ). h * 2 ^ k + l) (mod-eq_of_lt (high-below k w k≤ w<)) (mod-eq_of_lt (mod-lt w (pow_pos k))) ∙ Pow.split w k
 
 pub node_of-node_words : (n : Node) → n.kind < 2 ^ 6 → n.payload < 2 ^ 26 → node_of (node_words n) ≡ n
-node_of-node_words n k< p< = rw (high-pack 26, low-pack 26)
+unfolding pack high low
+node_of-node_words n k< p< = rw (high-number 26, low-number 26)
 
 pub node_words-length : (n : Node) → length (node_words n) ≡ node_width
 node_words-length n = refl
 
 pub report_of-report_words : (r : Report) → r.kind < 2 ^ 6 → r.detail < 2 ^ 26 → report_of (report_words r) ≡ r
-report_of-report_words r k< d< = rw (high-pack 26, low-pack 26)
+unfolding pack high low
+report_of-report_words r k< d< = rw (high-number 26, low-number 26)
 
 pub report_words-length : (r : Report) → length (report_words r) ≡ report_width
 report_words-length r = refl
