@@ -1,0 +1,9 @@
+-- `eat_if` meets its contract.
+use Rattle.reading.specs.Does.{gives, when_true, when_false}
+use Rattle.clauses.proofs.eat_if.Goals as goal
+
+pub returns-then-tried : goal.returns-then-tried
+returns-then-tried c = when_true c.if-tried.true c.eat.ensures
+
+pub returns : goal.returns
+returns c = when_false c.if-tried.false (rw c.if-tried.false gives)

@@ -1,0 +1,8 @@
+-- `emit_before` meets its contract.
+use Rattle.reading.specs.Does.{then}
+use Rattle.stream.specs.Commands.{before-is}
+use Rattle.reading.specs.Leaves.{emit-does}
+use Rattle.clauses.proofs.emit_before.Goals as goal
+
+pub returns : goal.returns
+returns c = then (before-is c.before_start-start.ensures c.token_start-end.ensures) (emit-does c.emit.ensures)

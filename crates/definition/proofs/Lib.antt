@@ -1,0 +1,9 @@
+pub mod Mono
+pub mod Progress
+pub mod Proper
+pub mod Bound
+pub mod Lengths
+pub mod Reserved
+pub mod Local
+pub mod Simulates
+pub mod Ends

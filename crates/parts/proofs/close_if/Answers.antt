@@ -1,0 +1,6 @@
+-- `close_if` meets its contract.
+use Rattle.reading.specs.Does.{then}
+use Rattle.parts.proofs.close_if.Goals as goal
+
+pub returns : goal.returns
+returns c = then c.close_node-list.ensures (then c.push_child-parent.ensures (then c.push_closing-parent.ensures c.close_node.ensures))

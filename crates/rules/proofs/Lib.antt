@@ -1,0 +1,4 @@
+pub mod Keys
+pub mod Walk
+pub mod Whole
+pub mod Steps

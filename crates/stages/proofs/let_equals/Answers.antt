@@ -1,0 +1,6 @@
+-- `let_equals` meets its contract.
+use Rattle.reading.specs.Does.{then, gives}
+use Rattle.stages.proofs.let_equals.Goals as goal
+
+pub returns : goal.returns
+returns c = then c.update_kind-at.ensures (then c.expect-equals.ensures gives)

@@ -1,0 +1,6 @@
+-- `open_arms` meets its contract.
+use Rattle.reading.specs.Does.{then, gives}
+use Rattle.stages.proofs.open_arms.Goals as goal
+
+pub returns : goal.returns
+returns c = then c.push_child-u.ensures (then c.open_list-list.ensures gives)

@@ -1,0 +1,6 @@
+-- `open_body` meets its contract.
+use Rattle.reading.specs.Does.{then, gives}
+use Rattle.stages.proofs.open_body.Goals as goal
+
+pub returns : goal.returns
+returns c = then c.push_option-u.ensures (then c.open_list-body.ensures gives)

@@ -1,0 +1,6 @@
+-- `more` meets its contract.
+use Rattle.reading.specs.Does.{then, gives}
+use Rattle.steps.proofs.more.Goals as goal
+
+pub returns : goal.returns
+returns c = then c.push_child-list.ensures (then c.eat-comma.ensures gives)

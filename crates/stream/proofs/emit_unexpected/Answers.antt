@@ -1,0 +1,15 @@
+-- `emit_unexpected` meets its contract.
+use mathlib.Core.Path.{ap}
+use mathlib.Core.Bool.{not}
+use Rattle.definition.specs.Tokens.{emit_unexpected}
+use Rattle.reading.specs.Does.{then, gives, when_true, when_false}
+use Rattle.stream.specs.Commands.{marked-is, here-is}
+use Rattle.stream.proofs.emit_unexpected.Goals as goal
+
+pub returns-then-is_marked : goal.returns-then-is_marked
+unfolding emit_unexpected
+returns-then-is_marked c = then (marked-is c.is_marked.ensures) (when_false (ap not c.if-is_marked.true) gives)
+
+pub returns : goal.returns
+unfolding emit_unexpected
+returns c = then (marked-is c.is_marked.ensures) (when_true (ap not c.if-is_marked.false) (then c.peek-found.ensures (then (here-is c.token_start.ensures c.token_end.ensures) c.emit_and_mark.ensures)))

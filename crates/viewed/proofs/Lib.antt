@@ -1,0 +1,4 @@
+pub mod Answers
+pub mod Proved
+pub mod Descends
+pub mod Walks
