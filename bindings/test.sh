@@ -10,7 +10,7 @@ cd "$project"
 # What needs no prover: quotations, what must be believed, constants (PLANK_SRC names the folder of the Rust's sources).
 tools/check.sh ${PLANK_SRC:+"$PLANK_SRC"}
 if [ ! -e "$PLANK_LIB/libexports.a" ]; then
-    echo "$PLANK_LIB/libexports.a is not there: \`rt staticlib exports\` writes it, PLANK_LIB names its folder" >&2
+    echo "$PLANK_LIB/libexports.a is not there: \`bindings/library.sh\` writes it, PLANK_LIB names its folder" >&2
     exit 2
 fi
 built="$CARGO_TARGET_DIR/c"

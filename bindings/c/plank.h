@@ -1,4 +1,4 @@
-/* The Plank script reader, for C (C11) and C++ (C++11). The library is libexports.a, which `rt staticlib exports`
+/* The Plank script reader, for C (C11) and C++ (C++11). The library is libexports.a, which `bindings/library.sh`
  * writes.
  *
  * Which names to use:

@@ -14,7 +14,7 @@ fn main() {
     if !archive.exists() {
         // Checking works without it; linking then fails.
         println!(
-            "cargo::warning={} is not there: `rt staticlib exports` in the project's folder \
+            "cargo::warning={} is not there: `bindings/library.sh` in the project's folder \
              writes it, PLANK_LIB names its folder",
             archive.display()
         );

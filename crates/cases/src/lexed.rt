@@ -4,12 +4,14 @@ ghost use Rattle.std.specs.Prelude.{◌+◌, ◌*◌, ◌≤◌, ◌<◌, length
 ghost use Rattle.cases.specs.Within.{Within, FoundWithin};
 
 use lexer::Lexed;
-use libc::STDOUT_FILENO;
+use std::fs;
+use std::io::{self, Read};
+use std::rt::Files;
 use words::refusal;
 
 // Where a record's parts lie in the data: the text, and the words of its tokens; of a text that is refused, which has 0 for the
 // number of tokens, the refusal's number and place.
-#[derive(Drop)]
+#[derive(Clone, Copy)]
 struct Record {
     start: usize,
     end: usize,
@@ -18,14 +20,14 @@ struct Record {
     count: usize,
 }
 
-#[derive(Drop)]
+#[derive(Clone, Copy)]
 enum Found {
     At(Record),
     Cut,
 }
 
 // What a record's replay showed; the place is where the next record starts.
-#[derive(Drop)]
+#[derive(Clone, Copy)]
 enum Turn {
     Same(usize),
     Differs(usize),
@@ -257,30 +259,29 @@ fn replay_record(file: &[u8], at: usize, tokens: &mut [u32]) -> Turn {
     }
 }
 
-pub(crate) fn print_number(before: &[u8], n: usize, after: &[u8]) {
-    io::write_all(STDOUT_FILENO, before);
-    io::print_decimal(STDOUT_FILENO, n as u64);
-    io::write_all(STDOUT_FILENO, after);
+fn print_differs(rt: &impl Print, n: usize) -> io::Result<()> {
+    println!(rt; "text {n} differs")
 }
 
-fn print_differs(n: usize) {
-    print_number(b"text ", n, b" differs\n");
+fn print_cut(rt: &impl Print, n: usize) -> io::Result<()> {
+    println!(rt; "data cut at record {n}")
 }
 
-fn print_cut(n: usize) {
-    print_number(b"data cut at record ", n, b"\n");
-}
-
-fn print_end(size: usize, at: usize, texts: usize, differences: usize) {
+fn print_end(
+    rt: &impl Print,
+    size: usize,
+    at: usize,
+    texts: usize,
+    differences: usize,
+) -> io::Result<()> {
     if at != size {
-        print_number(b"data go on after record ", texts, b"\n");
+        println!(rt; "data go on after record {texts}")?;
     }
-    print_number(b"", texts, b" texts, ");
-    print_number(b"", differences, b" differences\n");
+    println!(rt; "{texts} texts, {differences} differences")
 }
 
 // The records are counted from 1.
-fn replay(file: &[u8], tokens: &mut [u32], records: u32) {
+fn replay(rt: &impl Print, file: &[u8], tokens: &mut [u32], records: u32) -> io::Result<()> {
     let mut n: u32 = 0;
     let mut at = 4;
     let mut differences: u32 = 0;
@@ -291,43 +292,49 @@ fn replay(file: &[u8], tokens: &mut [u32], records: u32) {
                 at = next;
             }
             Turn::Differs(next) => {
-                print_differs(n as usize);
+                print_differs(rt, n as usize)?;
                 differences += 1;
                 at = next;
             }
-            Turn::Cut => {
-                print_cut(n as usize);
-                return;
-            }
+            Turn::Cut => return print_cut(rt, n as usize),
         }
     }
-    print_end(file.len(), at, n as usize, differences as usize);
+    print_end(rt, file.len(), at, n as usize, differences as usize)
 }
 
 // No record of so much data has more tokens than there is room for.
-fn replay_all(file: &[u8]) {
+fn replay_all(rt: &impl Print, file: &[u8]) -> io::Result<()> {
     if file.len() < 4 {
-        print_cut(0);
-        return;
+        return print_cut(rt, 0);
     }
     let mut tokens = [0u32; 49152];
-    replay(file, &mut tokens, number(file, 0));
+    replay(rt, file, &mut tokens, number(file, 0))
 }
 
-pub(crate) fn replay_lexed() {
-    let path = b"lexed";
-    let fd = os::open_read(path);
-    if fd < 0 {
-        os::fail(path);
-        return;
+// What a file begins with, up to one byte more than is taken, which shows that there is more.
+pub(crate) fn beginning<R: Files + AllocGlobal>(
+    rt: &R,
+    path: &str,
+    longest: u32,
+) -> io::Result<Vec<u8>> {
+    let mut data = Vec::new(rt.alloc());
+    fs::open(rt, path)?
+        .take(u64::from(longest) + 1)
+        .read_to_end(&mut data)?;
+    Ok(data)
+}
+
+pub(crate) fn replay_lexed(rt: &HostRuntime) -> io::Result<()> {
+    match beginning(rt, "lexed", LONGEST_DATA as u32) {
+        Ok(data) => {
+            if LONGEST_DATA < data.len() {
+                return println!(rt; "data too long");
+            }
+            replay_all(rt, data.as_slice())
+        }
+        Err(why) => {
+            let _ = eprintln!(rt; "lexed: {why}");
+            Ok(())
+        }
     }
-    // One byte more than is taken shows that there is more.
-    let mut file = [0u8; 196609];
-    let n = io::read_full(fd, &mut file);
-    libc::close(fd);
-    if LONGEST_DATA < n {
-        io::write_all(STDOUT_FILENO, b"data too long\n");
-        return;
-    }
-    replay_all(&file[..n]);
 }

@@ -1,9 +1,13 @@
 // Replays the recorded answers of the Rust lexer, then those of the Rust parser.
+#![tactic(auto)]
+
 mod lexed;
 mod recorded;
 mod trees;
 
-fn main() {
-    lexed::replay_lexed();
-    trees::replay_data();
+use std::io;
+
+fn main(rt: HostRuntime) -> io::Result<()> {
+    lexed::replay_lexed(&rt)?;
+    trees::replay_data(&rt)
 }

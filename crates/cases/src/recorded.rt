@@ -1,9 +1,10 @@
 // How the recorded answers of the Rust parser (data/parsed of crate cases) lie in the data.
-use crate::lexed::{is_recorded, number, print_number};
+use crate::lexed::{is_recorded, number};
+use std::io;
 
 // Where a record's parts lie in the data: the text, the words of nodes, values and reports, one behind the other, and the
 // tries.
-#[derive(Drop)]
+#[derive(Clone, Copy)]
 pub(crate) struct Tree {
     pub text: usize,
     pub text_end: usize,
@@ -15,14 +16,14 @@ pub(crate) struct Tree {
     pub next: usize,
 }
 
-#[derive(Drop)]
+#[derive(Clone, Copy)]
 pub(crate) enum Found {
     At(Tree),
     Cut,
 }
 
 // How many words are lent, and the refusal's number and place; 0 and 0 where it is done.
-#[derive(Drop)]
+#[derive(Clone, Copy)]
 pub(crate) struct Try {
     pub nodes: usize,
     pub values: usize,
@@ -173,18 +174,23 @@ pub(crate) fn are_zero(nodes: &[u32], values: &[u32], reports: &[u32]) -> bool {
     is_recorded(reports, &[])
 }
 
-pub(crate) fn print_differs(n: usize) {
-    print_number(b"tree ", n, b" differs\n");
+pub(crate) fn print_differs(rt: &impl Print, n: usize) -> io::Result<()> {
+    println!(rt; "tree {n} differs")
 }
 
-pub(crate) fn print_cut(n: usize) {
-    print_number(b"data cut at tree ", n, b"\n");
+pub(crate) fn print_cut(rt: &impl Print, n: usize) -> io::Result<()> {
+    println!(rt; "data cut at tree {n}")
 }
 
-pub(crate) fn print_end(size: usize, at: usize, trees: usize, differences: usize) {
+pub(crate) fn print_end(
+    rt: &impl Print,
+    size: usize,
+    at: usize,
+    trees: usize,
+    differences: usize,
+) -> io::Result<()> {
     if at != size {
-        print_number(b"data go on after tree ", trees, b"\n");
+        println!(rt; "data go on after tree {trees}")?;
     }
-    print_number(b"", trees, b" trees, ");
-    print_number(b"", differences, b" differences\n");
+    println!(rt; "{trees} trees, {differences} differences")
 }

@@ -1,15 +1,15 @@
 // Replays the recorded answers of the Rust parser (data/parsed) and says which texts the parser answers otherwise.
-use crate::lexed::{mark, number};
+use crate::lexed::{beginning, mark, number};
 use crate::recorded::{
     Found, LONGEST_DATA, TRY_BYTES, Tree, Try, are_counts, are_recorded, are_zero, part, print_cut,
     print_differs, print_end, tree_at, try_at,
 };
 use lexer::Lexed;
-use libc::STDOUT_FILENO;
 use parser::Parsed;
+use std::io;
 
 // What a record's replay showed; the place is where the next record starts.
-#[derive(Drop)]
+#[derive(Clone, Copy)]
 enum Turn {
     Same(usize),
     Differs(usize),
@@ -169,7 +169,7 @@ fn replay_tree(file: &[u8], at: usize) -> Turn {
 }
 
 // The records are counted from 1.
-fn replay(file: &[u8], records: u32) {
+fn replay(rt: &impl Print, file: &[u8], records: u32) -> io::Result<()> {
     let mut n: u32 = 0;
     let mut at = 4;
     let mut differences: u32 = 0;
@@ -180,41 +180,34 @@ fn replay(file: &[u8], records: u32) {
                 at = next;
             }
             Turn::Differs(next) => {
-                print_differs(n as usize);
+                print_differs(rt, n as usize)?;
                 differences += 1;
                 at = next;
             }
-            Turn::Cut => {
-                print_cut(n as usize);
-                return;
-            }
+            Turn::Cut => return print_cut(rt, n as usize),
         }
     }
-    print_end(file.len(), at, n as usize, differences as usize);
+    print_end(rt, file.len(), at, n as usize, differences as usize)
 }
 
-fn replay_all(file: &[u8]) {
+fn replay_all(rt: &impl Print, file: &[u8]) -> io::Result<()> {
     if file.len() < 4 {
-        print_cut(0);
-        return;
+        return print_cut(rt, 0);
     }
-    replay(file, number(file, 0));
+    replay(rt, file, number(file, 0))
 }
 
-pub(crate) fn replay_data() {
-    let path = b"parsed";
-    let fd = os::open_read(path);
-    if fd < 0 {
-        os::fail(path);
-        return;
+pub(crate) fn replay_data(rt: &HostRuntime) -> io::Result<()> {
+    match beginning(rt, "parsed", LONGEST_DATA as u32) {
+        Ok(data) => {
+            if LONGEST_DATA < data.len() {
+                return println!(rt; "data too long");
+            }
+            replay_all(rt, data.as_slice())
+        }
+        Err(why) => {
+            let _ = eprintln!(rt; "parsed: {why}");
+            Ok(())
+        }
     }
-    // One byte more than is taken shows that there is more.
-    let mut file = [0u8; 229377];
-    let n = io::read_full(fd, &mut file);
-    libc::close(fd);
-    if LONGEST_DATA < n {
-        io::write_all(STDOUT_FILENO, b"data too long\n");
-        return;
-    }
-    replay_all(&file[..n]);
 }

@@ -1,4 +1,6 @@
-// The library for programs in C and Rust: plain numbers and slices.
+// Reading for programs in C and Rust: plain numbers and slices. Crate exports_c exports it.
+#![tactic(auto)]
+
 ghost use Rattle.std.specs.Prelude.{◌≡◌, length};
 ghost use Rattle.lexer.specs.Lex.{answer, lexed, lexed_words};
 ghost use Rattle.reader.specs.Read.{reads};
@@ -22,16 +24,14 @@ fn lexed_code(lexed: Lexed) -> u64
 }
 
 // `plank::lex`: the number of tokens, or a refusal's number times 2 to the 32nd and its place.
-#[unsafe(no_mangle)]
-pub extern "C" fn plank_lex(text: &[u8], tokens: &mut [u32]) -> u64
+pub fn plank_lex(text: &[u8], tokens: &mut [u32]) -> u64
     ensures { (result ≡ coded (lexed text.now (length tokens.old))) × (tokens.new ≡ lexed_words text.now (length tokens.old)) }
 {
     lexed_code(plank::lex(text, tokens))
 }
 
 // The same by the branching lexer, for those who compare the two.
-#[unsafe(no_mangle)]
-pub extern "C" fn plank_lex_branching(text: &[u8], tokens: &mut [u32]) -> u64
+pub fn plank_lex_branching(text: &[u8], tokens: &mut [u32]) -> u64
     ensures { (result ≡ coded (lexed text.now (length tokens.old))) × (tokens.new ≡ lexed_words text.now (length tokens.old)) }
 {
     lexed_code(lexer::lex(text, tokens))
@@ -39,8 +39,7 @@ pub extern "C" fn plank_lex_branching(text: &[u8], tokens: &mut [u32]) -> u64
 
 // `plank::read`: 0, and the counts of tokens, nodes, value words and reports in `counts`, where it has four words; or a refusal's number
 // times 2 to the 32nd and its place.
-#[unsafe(no_mangle)]
-pub extern "C" fn plank_read(
+pub fn plank_read(
     text: &[u8],
     tokens: &mut [u32],
     nodes: &mut [u32],
@@ -61,24 +60,21 @@ pub extern "C" fn plank_read(
 
 // What the accessor `which` (`accessors::number`) tells of node `n`: a number, 2 to the 63rd for none, or refusal 8 times 2 to the 32nd
 // and its place. Accessors of lists tell their i-th.
-#[unsafe(no_mangle)]
-pub extern "C" fn plank_view(which: u32, nodes: &[u32], n: u32, i: u32) -> u64
+pub fn plank_view(which: u32, nodes: &[u32], n: u32, i: u32) -> u64
     ensures { result ≡ viewed (number_view which i nodes.now n) }
 {
     codes::view_code(accessors::number_view(which, nodes, n, i))
 }
 
 // As `plank_view`, of the accessors that count.
-#[unsafe(no_mangle)]
-pub extern "C" fn plank_view_count(which: u32, nodes: &[u32], n: u32) -> u64
+pub fn plank_view_count(which: u32, nodes: &[u32], n: u32) -> u64
     ensures { result ≡ viewed (count_view which nodes.now n) }
 {
     codes::view_count_code(accessors::count_view(which, nodes, n))
 }
 
 // As `plank_view`, of the accessors that tell tokens: 0, and the first token and the one past the last in `span`, where it has two words.
-#[unsafe(no_mangle)]
-pub extern "C" fn plank_view_span(which: u32, nodes: &[u32], n: u32, span: &mut [u32]) -> u64
+pub fn plank_view_span(which: u32, nodes: &[u32], n: u32, span: &mut [u32]) -> u64
     ensures { (result ≡ spanned (span_view which nodes.now n)) × (span.new ≡ bounds (span_view which nodes.now n) span.old) }
 {
     codes::view_span_code(accessors::span_view(which, nodes, n), span)

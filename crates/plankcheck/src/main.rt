@@ -1,12 +1,17 @@
 // Checks scripts for people: what is wrong in each file that is named, or in standard input where none is, as
 // `file:line:column: message` with the line and carets under the place. With `--tree`, the tree comes first.
+#![tactic(auto)]
+
+mod outline;
 mod print;
 mod reports;
 mod show;
-mod tree;
 
-use libc::STDIN_FILENO;
 use plank::Outcome;
+use std::alloc::Global;
+use std::env::{Env, FillError};
+use std::fs;
+use std::io::{self, Read, Write};
 
 // The words that are lent: what a script of 65,536 bytes takes at most, as argued in bindings/README.md. A token for each byte, and Eof;
 // three nodes for each byte, and File; a word of values for each byte, and one; two reports for each, and one at Eof.
@@ -18,28 +23,32 @@ const VALUES: usize = 65537;
 
 const REPORTS: usize = 393219;
 
-// What an argument was.
-#[derive(Drop)]
+// What an argument was; none behind the last.
+#[derive(Clone, Copy)]
 enum Argument {
     Tree,
     File,
+    Missing,
 }
 
 // The tree, if it is asked for. The values are not printed, and their words serve to find the way through the tree.
 fn tree_if_asked(
+    out: &mut impl Write,
     with_tree: bool,
     text: &[u8],
     tokens: &[u32],
     nodes: &[u32],
     count: u32,
     values: &mut [u32],
-) {
+) -> io::Result<()> {
     if with_tree {
-        tree::list(text, tokens, nodes, count, values);
+        outline::list(out, text, tokens, nodes, count, values)?;
     }
+    Ok(())
 }
 
 fn report_on(
+    out: &mut impl Write,
     name: &[u8],
     text: &[u8],
     with_tree: bool,
@@ -47,23 +56,24 @@ fn report_on(
     nodes: &mut [u32; NODES],
     values: &mut [u32; VALUES],
     told: &mut [u32; REPORTS],
-) {
+) -> io::Result<()> {
     match plank::read(text, tokens, nodes, values, told) {
         Outcome::Counts(_, count, _, mistakes) => {
-            tree_if_asked(with_tree, text, tokens, nodes, count, values);
-            reports::list(name, text, told, mistakes);
-            reports::summary(name, mistakes);
+            tree_if_asked(out, with_tree, text, tokens, nodes, count, values)?;
+            reports::list(out, name, text, told, mistakes)?;
+            reports::summary(out, name, mistakes)
         }
-        Outcome::Refused(number, place) => reports::refused(name, text, tokens, number, place),
+        Outcome::Refused(number, place) => reports::refused(out, name, text, tokens, number, place),
     }
 }
 
-fn check_text(name: &[u8], text: &[u8], with_tree: bool) {
+fn check_text(out: &mut impl Write, name: &[u8], text: &[u8], with_tree: bool) -> io::Result<()> {
     let mut tokens = [0u32; TOKENS];
     let mut nodes = [0u32; NODES];
     let mut values = [0u32; VALUES];
     let mut told = [0u32; REPORTS];
     report_on(
+        out,
         name,
         text,
         with_tree,
@@ -71,65 +81,97 @@ fn check_text(name: &[u8], text: &[u8], with_tree: bool) {
         &mut nodes,
         &mut values,
         &mut told,
-    );
+    )
 }
 
-// Checks what can be read from a descriptor.
-fn check_open(name: &[u8], fd: i32, with_tree: bool) {
-    // One byte more than a script may have shows that there is more.
-    let mut text = [0u8; 65537];
-    let n = io::read_full(fd, &mut text);
-    // A read that failed ends the text too, and fails again.
-    let mut more = [0u8; 1];
-    if libc::read(fd, &mut more) < 0 {
-        os::fail(name);
-        return;
-    }
-    check_text(name, &text[..n], with_tree);
+// What is read of a text. One byte more than a script may have shows that there is more, and whether reading fails shows at the next.
+fn read(alloc: Global, from: &mut impl Read) -> io::Result<Vec<u8>> {
+    let mut text = Vec::new(alloc);
+    from.take(65538).read_to_end(&mut text)?;
+    Ok(text)
 }
 
-fn check_file(path: &[u8], with_tree: bool) {
-    if check::same(path, b"-") {
-        check_open(b"<stdin>", STDIN_FILENO, with_tree);
-        return;
+// Tells on standard error why something can't be read; where that can't be written either, no one is told.
+fn fail(rt: &impl Eprint, name: &str, why: &str) {
+    let _ = eprintln!(rt; "{name}: {why}");
+}
+
+fn fail_by(rt: &impl Eprint, name: &str, why: io::Error) {
+    let _ = eprintln!(rt; "{name}: {why}");
+}
+
+fn check_input(rt: &HostRuntime, with_tree: bool) -> io::Result<()> {
+    match read(rt.alloc(), &mut rt.stdin()) {
+        Ok(text) => check_text(&mut io::writer(rt), b"<stdin>", text.as_slice(), with_tree),
+        Err(why) => {
+            fail_by(rt, "<stdin>", why);
+            Ok(())
+        }
     }
-    let fd = os::open_read(path);
-    if fd < 0 {
-        os::fail(path);
-        return;
+}
+
+fn read_file(rt: &HostRuntime, path: &str) -> io::Result<Vec<u8>> {
+    let mut file = fs::open(rt, path)?;
+    read(rt.alloc(), &mut file)
+}
+
+fn check_file(rt: &HostRuntime, path: &str, with_tree: bool) -> io::Result<()> {
+    if path == "-" {
+        return check_input(rt, with_tree);
     }
-    check_open(path, fd, with_tree);
-    libc::close(fd);
+    match read_file(rt, path) {
+        Ok(text) => check_text(
+            &mut io::writer(rt),
+            path.as_bytes(),
+            text.as_slice(),
+            with_tree,
+        ),
+        Err(why) => {
+            fail_by(rt, path, why);
+            Ok(())
+        }
+    }
+}
+
+// Does what an argument says. The library opens no file whose name is not UTF-8.
+fn follow(rt: &HostRuntime, argument: &[u8], with_tree: bool) -> io::Result<Argument> {
+    match str::from_utf8(argument) {
+        Ok(text) => {
+            if text == "--tree" {
+                return Ok(Argument::Tree);
+            }
+            check_file(rt, text, with_tree)?;
+        }
+        Err(_) => fail(rt, "argument", "not UTF-8"),
+    }
+    Ok(Argument::File)
 }
 
 // Does what the i-th argument says.
-fn take(i: usize, with_tree: bool) -> Argument {
-    let mut buffer = io::buffer();
-    let n = os::arg(i, &mut buffer);
-    if os::errno() != 0 {
-        os::fail(b"argument");
-        return Argument::File;
+fn take(rt: &HostRuntime, i: usize, with_tree: bool) -> io::Result<Argument> {
+    let mut buffer = [0u8; 4096];
+    match rt.arg(i, &mut buffer) {
+        Ok(n) => follow(rt, &buffer[..n], with_tree),
+        Err(FillError::NotPresent) => Ok(Argument::Missing),
+        Err(FillError::TooLong) => {
+            fail(rt, "argument", "too long");
+            Ok(Argument::File)
+        }
     }
-    if check::same(&buffer[..n], b"--tree") {
-        return Argument::Tree;
-    }
-    check_file(&buffer[..n], with_tree);
-    Argument::File
 }
 
-fn main() {
-    let count = os::arg_count();
+fn main(rt: HostRuntime) -> io::Result<()> {
     let mut with_tree = false;
     let mut is_named = false;
-    let mut i = 1;
-    while i < count {
-        match take(i, with_tree) {
+    for i in 1..usize::MAX {
+        match take(&rt, i, with_tree)? {
             Argument::Tree => with_tree = true,
             Argument::File => is_named = true,
+            Argument::Missing => break,
         }
-        i += 1;
     }
-    if !is_named {
-        check_open(b"<stdin>", STDIN_FILENO, with_tree);
+    if is_named {
+        return Ok(());
     }
+    check_input(&rt, with_tree)
 }

@@ -2,6 +2,7 @@
 ghost use Rattle.std.specs.Prelude.{◌≤◌};
 
 use crate::print;
+use std::io::{self, Write};
 use utf8::Character;
 
 // The most bytes that are shown of a line, and of those the most before the place that the line is shown for.
@@ -47,8 +48,9 @@ fn put_marks(line: &mut [u8; ROOM], n: usize, mark: u8, columns: usize) -> usize
 }
 
 // The first n marks of a line.
-fn print_line(line: &[u8; ROOM], n: usize) {
-    print::part(line, 0, n);
+fn print_line(out: &mut impl Write, line: &[u8; ROOM], n: usize) -> io::Result<()> {
+    print::part(out, line, 0, n)?;
+    Ok(())
 }
 
 // The first offset from one on where a character begins, or the text's end.
@@ -118,37 +120,45 @@ fn ends_line(text: &[u8], at: usize) -> bool {
 }
 
 // A control character by its name; a blank for one that belongs to a line's end.
-fn print_control(text: &[u8], at: usize, c: u32) {
+fn print_control(out: &mut impl Write, text: &[u8], at: usize, c: u32) -> io::Result<()> {
     if ends_line(text, at) {
-        print::bytes(b" ");
-        return;
+        print::bytes(out, b" ")?;
+        return Ok(());
     }
-    print::bytes(b"<");
-    print::code_point(c);
-    print::bytes(b">");
+    print::bytes(out, b"<")?;
+    print::code_point(out, c)?;
+    print::bytes(out, b">")?;
+    Ok(())
 }
 
 // A part of a text on one line.
-pub(crate) fn echo(text: &[u8], start: usize, end: usize) {
+pub(crate) fn echo(out: &mut impl Write, text: &[u8], start: usize, end: usize) -> io::Result<()> {
     let stop = least(end, text.len());
     let mut shown = start;
     let mut at = start;
     while at < stop {
         if let Character::Is(c, _) = control_at(text, at) {
-            print::part(text, shown, at);
-            print_control(text, at, c);
+            print::part(out, text, shown, at)?;
+            print_control(out, text, at, c)?;
             shown = next_start(text, at + 1);
         }
         at += 1;
     }
-    print::part(text, shown, stop);
+    print::part(out, text, shown, stop)?;
+    Ok(())
 }
 
 // A part of a text on one line, or as much of it as is shown.
-pub(crate) fn excerpt(text: &[u8], start: usize, end: usize) {
+pub(crate) fn excerpt(
+    out: &mut impl Write,
+    text: &[u8],
+    start: usize,
+    end: usize,
+) -> io::Result<()> {
     let stop = part_end(text, start, end);
-    echo(text, start, stop);
-    print_if(stop < end, b"...");
+    echo(out, text, start, stop)?;
+    print_if(out, stop < end, b"...")?;
+    Ok(())
 }
 
 // The columns of the character that begins at an offset; none where none does.
@@ -188,7 +198,14 @@ fn carets_end(end: usize, place: usize, place_end: usize) -> usize {
 }
 
 // Carets under the characters of a place, at least one, where the line is shown from `start` to `end`.
-fn carets(text: &[u8], start: usize, end: usize, place: usize, place_end: usize) {
+fn carets(
+    out: &mut impl Write,
+    text: &[u8],
+    start: usize,
+    end: usize,
+    place: usize,
+    place_end: usize,
+) -> io::Result<()> {
     let mut line = [b'^'; ROOM];
     let mut n = 0;
     let stop = least(carets_end(end, place, place_end), text.len());
@@ -204,35 +221,51 @@ fn carets(text: &[u8], start: usize, end: usize, place: usize, place_end: usize)
     }
     // At the line's end there is no character, and a caret stands behind the last one.
     if end <= place {
-        print_line(&line, n + 1);
-        return;
+        print_line(out, &line, n + 1)?;
+        return Ok(());
     }
-    print_line(&line, n);
+    print_line(out, &line, n)?;
+    Ok(())
 }
 
 // What shows that a line is cut, or keeps the carets below it in their place.
-fn print_if(is_cut: bool, sign: &[u8]) {
+fn print_if(out: &mut impl Write, is_cut: bool, sign: &[u8]) -> io::Result<()> {
     if is_cut {
-        print::bytes(sign);
+        print::bytes(out, sign)?;
     }
+    Ok(())
 }
 
 // The shown part of a line, from `start` to `end`, with what shows that it is cut.
-fn print_part(text: &[u8], is_begun: bool, start: usize, end: usize, is_cut: bool) {
-    print_if(is_begun, b"...");
-    echo(text, start, end);
-    print_if(is_cut, b"...");
-    print::bytes(b"\n");
+fn print_part(
+    out: &mut impl Write,
+    text: &[u8],
+    is_begun: bool,
+    start: usize,
+    end: usize,
+    is_cut: bool,
+) -> io::Result<()> {
+    print_if(out, is_begun, b"...")?;
+    echo(out, text, start, end)?;
+    print_if(out, is_cut, b"...")?;
+    print::bytes(out, b"\n")?;
+    Ok(())
 }
 
 // The line of a place, or as much as is shown of it, with carets under the place.
-pub(crate) fn place(text: &[u8], place: usize, place_end: usize) {
+pub(crate) fn place(
+    out: &mut impl Write,
+    text: &[u8],
+    place: usize,
+    place_end: usize,
+) -> io::Result<()> {
     let line = position::source_line(text, place);
     let start = part_start(text, line.start, place);
     let end = part_end(text, start, line.end);
     let is_begun = line.start < start;
-    print_part(text, is_begun, start, end, end < line.end);
-    print_if(is_begun, b"   ");
-    carets(text, start, end, place, place_end);
-    print::bytes(b"\n");
+    print_part(out, text, is_begun, start, end, end < line.end)?;
+    print_if(out, is_begun, b"   ")?;
+    carets(out, text, start, end, place, place_end)?;
+    print::bytes(out, b"\n")?;
+    Ok(())
 }

@@ -1,34 +1,23 @@
 // Lists the tree of the text on standard input: the numbers of nodes and reports, then for each node its number, kind, payload,
 // first token, end token, next sibling, first child and parent.
+#![tactic(auto)]
+
 ghost use Rattle.std.specs.Prelude.{◌+◌, ◌≤◌, length};
 
-use libc::{STDIN_FILENO, STDOUT_FILENO};
 use plank::Outcome;
+use std::io::{self, Read};
 use words::{NODE_WIDTH, Node, refusal};
 
 // The most bytes of text that are read.
 const LONGEST: usize = 2048;
 
-fn print_number(before: &[u8], n: u32, after: &[u8]) {
-    io::write_all(STDOUT_FILENO, before);
-    io::print_decimal(STDOUT_FILENO, n as u64);
-    io::write_all(STDOUT_FILENO, after);
+fn print_refused(rt: &impl Print, number: u32, place: u32) -> io::Result<()> {
+    println!(rt; "refused {number} {place}")
 }
 
-fn print_refused(number: u32, place: u32) {
-    print_number(b"refused ", number, b" ");
-    print_number(b"", place, b"\n");
-}
-
-fn print_node(n: u32, node: Node) {
-    print_number(b"", n, b" ");
-    print_number(b"", node.kind, b" ");
-    print_number(b"", node.payload, b" ");
-    print_number(b"", node.first, b" ");
-    print_number(b"", node.end, b" ");
-    print_number(b"", node.next, b" ");
-    print_number(b"", node.child, b" ");
-    print_number(b"", node.parent, b"\n");
+fn print_node(rt: &impl Print, n: u32, node: Node) -> io::Result<()> {
+    print!(rt; "{n} {} {} {} ", node.kind, node.payload, node.first)?;
+    println!(rt; "{} {} {} {}", node.end, node.next, node.child, node.parent)
 }
 
 // The node that begins at a word.
@@ -45,55 +34,53 @@ fn node_at(nodes: &[u32], at: usize) -> Node
     ])
 }
 
-fn print_nodes(nodes: &[u32], count: u32) {
-    let mut n = 0;
-    let mut at = 0;
-    while n < count {
+fn print_nodes(rt: &impl Print, nodes: &[u32], count: u32) -> io::Result<()> {
+    let mut rest = nodes;
+    for n in 0..count {
         // Never so: each node that is counted has its words.
-        if nodes.len() - at < NODE_WIDTH {
-            return;
+        if rest.len() < NODE_WIDTH {
+            break;
         }
-        print_node(n, node_at(nodes, at));
-        n += 1;
-        at += NODE_WIDTH;
+        print_node(rt, n, node_at(rest, 0))?;
+        rest = &rest[NODE_WIDTH..];
     }
+    Ok(())
 }
 
 fn list(
+    rt: &impl Print,
     text: &[u8],
     tokens: &mut [u32],
     nodes: &mut [u32],
     values: &mut [u32],
     reports: &mut [u32],
-) {
+) -> io::Result<()> {
     match plank::read(text, tokens, nodes, values, reports) {
         Outcome::Counts(_, count, _, told) => {
-            print_number(b"nodes ", count, b" reports ");
-            io::print_decimal(STDOUT_FILENO, told as u64);
-            io::write_all(STDOUT_FILENO, b"\n");
-            print_nodes(nodes, count);
+            println!(rt; "nodes {count} reports {told}")?;
+            print_nodes(rt, nodes, count)
         }
-        Outcome::Refused(number, place) => print_refused(number, place),
+        Outcome::Refused(number, place) => print_refused(rt, number, place),
     }
 }
 
-fn main() {
+fn main(rt: HostRuntime) -> io::Result<()> {
     // One byte more than is taken shows that there is more.
-    let mut text = [0u8; 2049];
-    let n = io::read_full(STDIN_FILENO, &mut text);
-    if LONGEST < n {
-        print_refused(refusal::TOO_LONG, LONGEST as u32);
-        return;
+    let mut text = Vec::new(rt.alloc());
+    rt.stdin().take(LONGEST as u64 + 1).read_to_end(&mut text)?;
+    if LONGEST < text.len() {
+        return print_refused(&rt, refusal::TOO_LONG, LONGEST as u32);
     }
     let mut tokens = [0u32; 2049];
     let mut nodes = [0u32; 16384];
     let mut values = [0u32; 4096];
     let mut reports = [0u32; 4096];
     list(
-        &text[..n],
+        &rt,
+        text.as_slice(),
         &mut tokens,
         &mut nodes,
         &mut values,
         &mut reports,
-    );
+    )
 }

@@ -128,8 +128,7 @@ fn is_item(sources: &str, name: &str) -> bool {
 
 #[test]
 fn the_header_has_a_function_for_each_accessor() {
-    let groups =
-        ["any", "declarations", "statements", "functions", "operators", "structs", "branches"];
+    let groups = ["any", "items", "statements", "functions", "operators", "structs", "branches"];
     let sources: String =
         groups.iter().map(|group| file(&format!("crates/accessors/src/{group}.rt"))).collect();
     let wanted: Vec<String> = constants(&file("crates/accessors/src/number.rt"))
@@ -154,7 +153,7 @@ fn the_header_has_a_function_for_each_accessor() {
 
 /// The heads of the functions that Rattle exports, each on one line.
 fn exported() -> BTreeMap<String, String> {
-    let source = file("crates/exports/src/lib.rt");
+    let source = file("crates/exports_c/src/lib.rt");
     let heads = source.split("pub extern \"C\" fn ").skip(1);
     heads
         .map(|head| {
