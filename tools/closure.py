@@ -17,7 +17,7 @@ import sys
 import sources
 
 PAGE = "docs/TRUST.md"
-# The laws that the page names as headlines: their statements are walked too.
+# The laws that the page names as headlines, in specs/ or in proofs/: their statements are walked too.
 LAWS = [("viewed/Unrefused", "never-refused"), ("viewed/Proved", "reads-viewed"), ("viewed/Walks", "reads-walked"), ("viewed/Table", "tells"), ("viewed/Table", "unfailing")]
 
 
@@ -42,10 +42,14 @@ def cited(contract, source):
             yield names[word]
         elif dot and first in aliases:
             yield aliases[first], rest
+        elif dot and first in names:
+            yield names[first]
 
 
 def stated(modules, at, law):
     """The definitions that a law's statement names."""
+    if at not in modules or law not in modules[at].items:
+        at = at.replace("/", "/proofs.")
     module = modules[at]
     for word in set(sources.words_of(module.items[law].statement)) - {law}:
         target = module.reference(word, module.items[law])
@@ -55,9 +59,10 @@ def stated(modules, at, law):
 
 def reached(modules, roots):
     """All definitions reached from the roots, as {module: {name}}."""
-    found, todo = collections.defaultdict(set), list(roots)
+    found, todo, passed_on = collections.defaultdict(set), list(roots), sources.passed_on()
     while todo:
         at, name = todo.pop()
+        at = passed_on.get(at, at)
         if at not in modules:
             continue  # the kit's, or a type that the code declares
         module = modules[at]

@@ -90,7 +90,7 @@ def widths():
         yield name, {"code": own[name], "definitions": stated, "header": defines[name], "crate": rust[name], "FORMAT.md": int(rows[what])}
     for what in ("node", "report"):
         name = what + "width"
-        stated = int(re.search(rf"^{what}Width = (\d+)$", text, re.M).group(1))
+        stated = int(re.search(rf"^{what}_width = (\d+)$", text, re.M).group(1))
         yield name, {"code": own[name], "definitions": stated, "header": defines[name], "crate": rust[name]}
 
 

@@ -3,7 +3,7 @@
 
     tools/quotations.py [PAGE]
 
-Looked at are the comments of crates/*/specs and crates/*/src. A quotation stands in quotation marks, over several lines too; `..` in it
+Looked at are the comments of crates/*/specs and crates/*/src, and of the files right in crates/*/proofs. A quotation stands in quotation marks, over several lines too; `..` in it
 marks a cut, and its parts must follow one another in the page. Where a citation `(01, Section)` stands right behind it, it must stand in
 that section. Its first letter may be a capital or not, and a last full stop may be its own. A quotation counts as the page's unless it is
 code, or comes from a source in ELSEWHERE. Exit status 1 where one isn't found.
@@ -108,7 +108,7 @@ def main():
         page = page.read()
     all_sections, whole = list(sections(page)), plain(page)
     os.chdir(ROOT)
-    paths = glob.glob("crates/*/specs/**/*.antt", recursive=True) + glob.glob("crates/*/src/**/*.rt", recursive=True)
+    paths = glob.glob("crates/*/specs/**/*.antt", recursive=True) + glob.glob("crates/*/src/**/*.rt", recursive=True) + glob.glob("crates/*/proofs/*.antt")
     count = cited = missing = 0
     for path in sorted(paths):
         for line, text in comments(path):

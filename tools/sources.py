@@ -34,8 +34,8 @@ def words_of(text):
 
 
 def pieces(name):
-    """How a name is written where it is used: `_⊕_` as `⊕`."""
-    return [piece for piece in name.split("_") if piece] if "_" in name else [name]
+    """How a name is written where it is used: `◌⊕◌` as `⊕`."""
+    return [piece for piece in name.split("◌") if piece] if "◌" in name else [name]
 
 
 # ---- antt
@@ -167,7 +167,7 @@ class Module:
         if word in self.imports:
             return self.imports[word]
         names = [word] if word in self.items or word in self.owners else []
-        names += [name for name in [*self.items, *self.owners] if "_" in name and word in pieces(name)]
+        names += [name for name in [*self.items, *self.owners] if "◌" in name and word in pieces(name)]
         for name in names:
             there = self.items[self.owners.get(name, name)]
             if item is None or there.line <= item.line or there.together == item.together != 0:
@@ -175,7 +175,9 @@ class Module:
         first, dot, rest = word.partition(".")
         if dot and first in self.aliases:
             return self.aliases[first], rest
-        return next((target for name, target in self.imports.items() if "_" in name and word in pieces(name)), None)
+        if dot and first:
+            return self.reference(first, item)  # a projection
+        return next((target for name, target in self.imports.items() if "◌" in name and word in pieces(name)), None)
 
 
 def stated(text):
@@ -197,17 +199,30 @@ def stated(text):
 
 
 def module_name(name):
-    """`Rattle·tree·specs.specs.Grown` and `Rattle·tree.specs.Grown` are `tree/Grown`; modules of the kit stay as they are."""
-    match = re.match(r"Rattle·(\w+?)(?:·specs)?\.specs\.(.*)$", name)
-    return f"{match.group(1)}/{match.group(2)}" if match else name
+    """`Rattle.tree.specs.Grown` is `tree/Grown`, and `Rattle.chart.proofs.Sound` is `chart/proofs.Sound`; modules of the kit stay as they are."""
+    match = re.match(r"Rattle\.(\w+)\.(specs|proofs)\.(.*)$", name)
+    if not match or match.group(1) == "std":
+        return name
+    crate, folder, inner = match.groups()
+    return f"{crate}/{inner}" if folder == "specs" else f"{crate}/proofs.{inner}"
 
 
 def modules():
-    """All modules of specs/ by name, as `tree/Grown`."""
+    """All modules of specs/ by name, as `tree/Grown`, and those that stand right in proofs/, as `chart/proofs.Sound`."""
     found = {}
-    for path in files("crates/*/specs/**/*.antt"):
-        crate, inner = re.match(r"crates/(\w+)/specs/(.*)\.antt$", path).groups()
-        found[f"{crate}/{inner.replace('/', '.')}"] = Module(path)
+    for path in files("crates/*/specs/*.antt") + files("crates/*/proofs/*.antt"):
+        crate, folder, inner = re.match(r"crates/(\w+)/(specs|proofs)/(.*)\.antt$", path).groups()
+        if inner != "Lib":
+            found[module_name(f"Rattle.{crate}.{folder}.{inner}")] = Module(path)
+    return found
+
+
+def passed_on():
+    """The modules that a crate passes on in its Lib.antt, `lexer/Lexer` for one, and what they are: `scan/Lexer`."""
+    found = {}
+    for path in files("crates/*/specs/Lib.antt"):
+        for name in re.findall(r"^pub use (\S+)$", read(path), re.M):
+            found[f"{path.split('/')[1]}/{name.split('.')[-1]}"] = module_name(name)
     return found
 
 
@@ -251,7 +266,7 @@ def functions(text):
         while True:
             brace = text.index("{", at)
             end = closing(text, brace)
-            if not re.search(r"\b(requires|ensures)\s*$", text[at:brace]):
+            if not re.search(r"\b(requires|ensures)( \w+)?\s*$", text[at:brace]):
                 break
             contract += text[brace:end + 1]
             at = end

@@ -1,5 +1,5 @@
 #!/usr/bin/env python3
-"""Lists what nothing uses: imports, public items with no user outside their crate, names of specs/ that nothing cites.
+"""Lists what nothing uses: imports, public items with no user outside their crate, names of specs/ and proofs/ that nothing cites.
 
     tools/unused.py [imports | items | names]
 
@@ -13,9 +13,11 @@ import sys
 import sources
 
 # Crates whose public items are calls for other programs.
-CALLS = {"plank", "exports", "node_view"}
+CALLS = {"plank", "exports", "exports_c", "node_view"}
 # Modules of worked cases: each is a result in itself.
-CASES = re.compile(r"/(Examples?|Cases|Limits)$")
+CASES = re.compile(r"/(proofs\.)?(Examples?|Cases|Limits)$")
+# Traits of std that are imported for their methods: their own names need not stand in the file.
+TRAITS = {"Read", "Write", "BufRead"}
 
 
 def antt_parts(path):
@@ -41,7 +43,7 @@ def antt_parts(path):
 
 
 def is_used(name, words):
-    """Whether a name, or for `_⊕_` each of its pieces, stands among words; `a.b` is a use of `a`."""
+    """Whether a name, or for `◌⊕◌` each of its pieces, stands among words; `a.b` is a use of `a`."""
     return name in words or all(piece in words for piece in sources.pieces(name))
 
 
@@ -49,6 +51,25 @@ def heads(words):
     """The words, and what stands before their first full stop."""
     words = set(words)
     return words | {word.split(".")[0] for word in words if "." in word}
+
+
+def told(tree):
+    """The names that a Rust `use` gives: of `std::io::{self, Read}` io and Read, of `a::b as c` c."""
+    path, brace, inside = tree.strip().partition("{")
+    last = path.strip().rstrip(":").split("::")[-1]
+    if not brace:
+        name, _, local = last.partition(" as ")
+        yield (local or name).strip()
+        return
+    depth, part = 0, ""
+    for sign in inside[:inside.rindex("}")] + ",":
+        depth += (sign == "{") - (sign == "}")
+        if sign == "," and depth == 0:
+            if part.strip():
+                yield from (last if name == "self" else name for name in told(part))
+            part = ""
+        else:
+            part += sign
 
 
 def unused_imports():
@@ -68,12 +89,15 @@ def unused_imports():
         for match in re.finditer(r"^\s*(pub )?(ghost )?use ([^;]*);", text, re.M):
             public, ghost, what = match.groups()
             inside = re.search(r"\{(.*)\}$", what, re.S)
-            names = inside.group(1).split(",") if inside else [what]
-            for name in filter(None, (name.strip() for name in names)):
-                name = re.split(r"::|\.", name.partition(" as ")[2] or name)[-1] if not inside else name.partition(" as ")[2] or name
-                if not public and not (is_used(name, words) if ghost else name in code):
-                    line = text[:match.start(3)].count("\n") + 1
-                    yield f"{path}:{line}: {name} ({'ghost ' if ghost else ''}use)"
+            if not ghost:
+                names = [name for name in told(what) if name not in code | TRAITS]
+            else:
+                names = inside.group(1).split(",") if inside else [what]
+                pairs = [name.strip().partition(" as ") for name in names if name.strip()]
+                names = [local or (name if inside else name.split(".")[-1]) for name, _, local in pairs]
+                names = [name for name in names if not is_used(name, words)]
+            line = text[:match.start(3)].count("\n") + 1
+            yield from (f"{path}:{line}: {name} ({'ghost ' if ghost else ''}use)" for name in names if not public)
 
 
 def lonely_items():
@@ -104,7 +128,7 @@ def lonely_items():
 
 
 def uncited_names():
-    """Top-level names of specs/ that no other file and no other item of their own file cites."""
+    """Top-level names of specs/, and of the files right in proofs/, that no other file and no other item of their own file cites."""
     modules = sources.modules()
     cited = collections.defaultdict(set)
     for path in sources.files("crates/*/specs/**/*.antt") + sources.files("crates/*/proofs/**/*.antt"):

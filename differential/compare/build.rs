@@ -8,7 +8,7 @@ fn main() {
     let archive = folder.join("libexports.a");
     assert!(
         archive.exists(),
-        "{} is not there; `rt staticlib exports` writes it, PLANK_LIB names its folder",
+        "{} is not there; `bindings/library.sh` writes it, PLANK_LIB names its folder",
         archive.display()
     );
     println!("cargo::rerun-if-changed={}", archive.display());
