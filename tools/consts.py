@@ -23,7 +23,17 @@ def table(rows):
 
 
 def code(path):
-    return table(re.findall(r"^\s*(?:pub(?:\(\w+\))? )?const (\w+): \w+ = ([\d_]+);", sources.read(path), re.M))
+    """The constants of a source, and the cases of its enums: a case without a number is one more than the case before."""
+    text = sources.read(path)
+    return {**table(re.findall(r"^\s*(?:pub(?:\(\w+\))? )?const (\w+): \w+ = ([\d_]+);", text, re.M)), **table(cases(text))}
+
+
+def cases(text):
+    for body in re.findall(r"^pub enum \w+ \{\n(.*?)^\}", text, re.M | re.S):
+        number = -1
+        for name, own in re.findall(r"^    ([A-Z]\w*)(?: = (\d+))?,$", body, re.M):
+            number = int(own) if own else number + 1
+            yield name, number
 
 
 def definitions(module):

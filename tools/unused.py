@@ -147,7 +147,7 @@ def uncited_names():
                 cited[module].add(name)
         for local, module in aliases.items():
             cited[module] |= {word.partition(".")[2] for word in words if word.startswith(local + ".")}
-    pages = " ".join(sources.read(path) for path in sources.files("*.md") + sources.files("docs/*.md") + sources.files("*/README.md"))
+    pages = " ".join(sources.read(path) for path in sources.files("*.md") + sources.files("docs/*.md") + sources.files("*/README.md") if path != "docs/DESIGN-PASS.md")
     for at, module in sorted(modules.items()):
         if CASES.search(at):
             continue

@@ -1,6 +1,6 @@
 // Accessors by number: `if` and `match`.
 ghost use Rattle.std.specs.Prelude.{◌≡◌};
-ghost use Rattle.looking.specs.View.{none, answer, spans as spanned, counts as counted};
+ghost use Rattle.looking.specs.View.{none, answer};
 ghost use Rattle.accessors.specs.Rows.{pick};
 ghost use Rattle.accessors.specs.Branches.{numbers, spans, counts};
 
@@ -12,10 +12,10 @@ use expressions::expressions::{
     match_fallback_arm_binding, match_fallback_arm_binding_span, match_fallback_arm_body,
     match_fallback_arm_bound,
 };
-use looking::{Count, Spanned, View};
+use looking::{Seen, TokenSpan};
 
 // The accessor with this number, of a node.
-pub(crate) fn view(which: u32, nodes: &[u32], n: u32, i: u32) -> View
+pub(crate) fn view(which: u32, nodes: &[u32], n: u32, i: u32) -> Seen<u32>
     ensures { answer result ≡ pick none (numbers i nodes.now n) which }
 {
     match which {
@@ -32,27 +32,27 @@ pub(crate) fn view(which: u32, nodes: &[u32], n: u32, i: u32) -> View
         number::MATCH_FALLBACK_ARM_BOUND => match_fallback_arm_bound(nodes, n),
         number::MATCH_FALLBACK_ARM_BINDING => match_fallback_arm_binding(nodes, n),
         number::MATCH_FALLBACK_ARM_BODY => match_fallback_arm_body(nodes, n),
-        _ => View::None,
+        _ => Ok(None),
     }
 }
 
 // The accessor that tells tokens with this number, of a node.
-pub(crate) fn span_view(which: u32, nodes: &[u32], n: u32) -> Spanned
-    ensures { spanned result ≡ pick none (spans nodes.now n) which }
+pub(crate) fn span_view(which: u32, nodes: &[u32], n: u32) -> Seen<TokenSpan>
+    ensures { answer result ≡ pick none (spans nodes.now n) which }
 {
     match which {
         number::MATCH_FALLBACK_ARM_BINDING_SPAN => match_fallback_arm_binding_span(nodes, n),
-        _ => Spanned::None,
+        _ => Ok(None),
     }
 }
 
 // The accessor that counts with this number, of a node.
-pub(crate) fn count_view(which: u32, nodes: &[u32], n: u32) -> Count
-    ensures { counted result ≡ pick none (counts nodes.now n) which }
+pub(crate) fn count_view(which: u32, nodes: &[u32], n: u32) -> Seen<usize>
+    ensures { answer result ≡ pick none (counts nodes.now n) which }
 {
     match which {
         number::IF_EXPR_ELSE_IF_BRANCH_COUNT => if_expr_else_if_branch_count(nodes, n),
         number::MATCH_EXPR_ARM_COUNT => match_expr_arm_count(nodes, n),
-        _ => Count::None,
+        _ => Ok(None),
     }
 }

@@ -1,6 +1,6 @@
 // Accessors by number: functions, methods and parameters.
 ghost use Rattle.std.specs.Prelude.{◌≡◌};
-ghost use Rattle.looking.specs.View.{none, answer, spans as spanned, counts as counted};
+ghost use Rattle.looking.specs.View.{none, answer};
 ghost use Rattle.accessors.specs.Rows.{pick};
 ghost use Rattle.accessors.specs.Functions.{numbers, spans, counts};
 
@@ -12,10 +12,10 @@ use expressions::functions::{
     param_is_comptime, param_name, param_name_span, param_type_any, param_type_any_span,
     param_type_explicit,
 };
-use looking::{Count, Spanned, View};
+use looking::{Seen, TokenSpan};
 
 // The accessor with this number, of a node.
-pub(crate) fn view(which: u32, nodes: &[u32], n: u32, i: u32) -> View
+pub(crate) fn view(which: u32, nodes: &[u32], n: u32, i: u32) -> Seen<u32>
     ensures { answer result ≡ pick none (numbers i nodes.now n) which }
 {
     match which {
@@ -32,13 +32,13 @@ pub(crate) fn view(which: u32, nodes: &[u32], n: u32, i: u32) -> View
         number::PARAM_IS_COMPTIME => param_is_comptime(nodes, n),
         number::PARAM_TYPE_EXPLICIT => param_type_explicit(nodes, n),
         number::PARAM_TYPE_ANY => param_type_any(nodes, n),
-        _ => View::None,
+        _ => Ok(None),
     }
 }
 
 // The accessor that tells tokens with this number, of a node.
-pub(crate) fn span_view(which: u32, nodes: &[u32], n: u32) -> Spanned
-    ensures { spanned result ≡ pick none (spans nodes.now n) which }
+pub(crate) fn span_view(which: u32, nodes: &[u32], n: u32) -> Seen<TokenSpan>
+    ensures { answer result ≡ pick none (spans nodes.now n) which }
 {
     match which {
         number::FN_DEF_PARAM_LIST_SPAN => fn_def_param_list_span(nodes, n),
@@ -46,17 +46,17 @@ pub(crate) fn span_view(which: u32, nodes: &[u32], n: u32) -> Spanned
         number::METHOD_DEF_PARAM_LIST_SPAN => method_def_param_list_span(nodes, n),
         number::PARAM_NAME_SPAN => param_name_span(nodes, n),
         number::PARAM_TYPE_ANY_SPAN => param_type_any_span(nodes, n),
-        _ => Spanned::None,
+        _ => Ok(None),
     }
 }
 
 // The accessor that counts with this number, of a node.
-pub(crate) fn count_view(which: u32, nodes: &[u32], n: u32) -> Count
-    ensures { counted result ≡ pick none (counts nodes.now n) which }
+pub(crate) fn count_view(which: u32, nodes: &[u32], n: u32) -> Seen<usize>
+    ensures { answer result ≡ pick none (counts nodes.now n) which }
 {
     match which {
         number::FN_DEF_PARAM_COUNT => fn_def_param_count(nodes, n),
         number::METHOD_DEF_PARAM_COUNT => method_def_param_count(nodes, n),
-        _ => Count::None,
+        _ => Ok(None),
     }
 }

@@ -1,11 +1,11 @@
 // Accessors by number: files, constants and imports.
 ghost use Rattle.std.specs.Prelude.{◌≡◌};
-ghost use Rattle.looking.specs.View.{none, answer, spans as spanned, counts as counted};
+ghost use Rattle.looking.specs.View.{none, answer};
 ghost use Rattle.accessors.specs.Rows.{pick};
 ghost use Rattle.accessors.specs.Declarations.{numbers, spans, counts};
 
 use crate::number;
-use looking::{Count, Spanned, View};
+use looking::{Seen, TokenSpan};
 use views::declarations::{
     const_decl_assign, const_decl_name, const_decl_name_span, const_decl_span, const_decl_type,
     file, file_def, file_def_count, import_as_decl_name, import_group_item,
@@ -21,7 +21,7 @@ use views::imports::{
 };
 
 // The accessor with this number, of a node.
-pub(crate) fn view(which: u32, nodes: &[u32], n: u32, i: u32) -> View
+pub(crate) fn view(which: u32, nodes: &[u32], n: u32, i: u32) -> Seen<u32>
     ensures { answer result ≡ pick none (numbers i nodes.now n) which }
 {
     match which {
@@ -42,13 +42,13 @@ pub(crate) fn view(which: u32, nodes: &[u32], n: u32, i: u32) -> View
         number::IMPORT_GROUP_ITEM => import_group_item(nodes, n, i),
         number::IMPORT_GROUP_ITEM_NAME => import_group_item_name(nodes, n),
         number::IMPORT_GROUP_ITEM_ALIAS => import_group_item_alias(nodes, n),
-        _ => View::None,
+        _ => Ok(None),
     }
 }
 
 // The accessor that tells tokens with this number, of a node.
-pub(crate) fn span_view(which: u32, nodes: &[u32], n: u32) -> Spanned
-    ensures { spanned result ≡ pick none (spans nodes.now n) which }
+pub(crate) fn span_view(which: u32, nodes: &[u32], n: u32) -> Seen<TokenSpan>
+    ensures { answer result ≡ pick none (spans nodes.now n) which }
 {
     match which {
         number::CONST_DECL_NAME_SPAN => const_decl_name_span(nodes, n),
@@ -62,19 +62,19 @@ pub(crate) fn span_view(which: u32, nodes: &[u32], n: u32) -> Spanned
         number::IMPORT_GROUP_FILE_PATH_SPAN => import_group_file_path_span(nodes, n),
         number::IMPORT_GROUP_ITEM_NAME_SPAN => import_group_item_name_span(nodes, n),
         number::IMPORT_GROUP_ITEM_SPAN => import_group_item_span(nodes, n),
-        _ => Spanned::None,
+        _ => Ok(None),
     }
 }
 
 // The accessor that counts with this number, of a node.
-pub(crate) fn count_view(which: u32, nodes: &[u32], n: u32) -> Count
-    ensures { counted result ≡ pick none (counts nodes.now n) which }
+pub(crate) fn count_view(which: u32, nodes: &[u32], n: u32) -> Seen<usize>
+    ensures { answer result ≡ pick none (counts nodes.now n) which }
 {
     match which {
         number::FILE_DEF_COUNT => file_def_count(nodes, n),
         number::IMPORT_PATH_SEGMENT_COUNT => import_path_segment_count(nodes, n),
         number::IMPORT_GROUP_PATH_SEGMENT_COUNT => import_group_path_segment_count(nodes, n),
         number::IMPORT_GROUP_ITEM_COUNT => import_group_item_count(nodes, n),
-        _ => Count::None,
+        _ => Ok(None),
     }
 }

@@ -1,8 +1,9 @@
 // Every accessor of the views by its number, for callers that take plain numbers. The numbers stand in `number`.
+// They are no enum, as C may ask by any number: one that no accessor has tells none.
 #![tactic(auto, unfolding(crate::specs::Rows::pick))]
 
 ghost use Rattle.std.specs.Prelude.{◌≡◌};
-ghost use Rattle.looking.specs.View.{answer, spans, counts};
+ghost use Rattle.looking.specs.View.{answer};
 ghost use Rattle.accessors.specs.Views.{number_view, span_view, count_view};
 
 mod any;
@@ -14,10 +15,10 @@ mod operators;
 mod statements;
 mod structs;
 
-use looking::{Count, Spanned, View};
+use looking::{Seen, TokenSpan};
 
 // The accessors that tell a number: a node, a name, a flag, an operator.
-pub fn number_view(which: u32, nodes: &[u32], n: u32, i: u32) -> View
+pub fn number_view(which: u32, nodes: &[u32], n: u32, i: u32) -> Seen<u32>
     ensures { answer result ≡ number_view which i nodes.now n }
 {
     match which / 32 {
@@ -28,13 +29,13 @@ pub fn number_view(which: u32, nodes: &[u32], n: u32, i: u32) -> View
         4 => operators::view(which, nodes, n, i),
         5 => structs::view(which, nodes, n, i),
         6 => branches::view(which, nodes, n, i),
-        _ => View::None,
+        _ => Ok(None),
     }
 }
 
 // The accessors that tell the tokens of a node or of a path.
-pub fn span_view(which: u32, nodes: &[u32], n: u32) -> Spanned
-    ensures { spans result ≡ span_view which nodes.now n }
+pub fn span_view(which: u32, nodes: &[u32], n: u32) -> Seen<TokenSpan>
+    ensures { answer result ≡ span_view which nodes.now n }
 {
     match which / 32 {
         0 => any::span_view(which, nodes, n),
@@ -44,13 +45,13 @@ pub fn span_view(which: u32, nodes: &[u32], n: u32) -> Spanned
         4 => operators::span_view(which, nodes, n),
         5 => structs::span_view(which, nodes, n),
         6 => branches::span_view(which, nodes, n),
-        _ => Spanned::None,
+        _ => Ok(None),
     }
 }
 
 // The accessors that tell how many there are.
-pub fn count_view(which: u32, nodes: &[u32], n: u32) -> Count
-    ensures { counts result ≡ count_view which nodes.now n }
+pub fn count_view(which: u32, nodes: &[u32], n: u32) -> Seen<usize>
+    ensures { answer result ≡ count_view which nodes.now n }
 {
     match which / 32 {
         0 => any::count_view(which, nodes, n),
@@ -60,6 +61,6 @@ pub fn count_view(which: u32, nodes: &[u32], n: u32) -> Count
         4 => operators::count_view(which, nodes, n),
         5 => structs::count_view(which, nodes, n),
         6 => branches::count_view(which, nodes, n),
-        _ => Count::None,
+        _ => Ok(None),
     }
 }

@@ -1,6 +1,6 @@
 // Accessors by number: operators, calls, members and literals.
 ghost use Rattle.std.specs.Prelude.{◌≡◌};
-ghost use Rattle.looking.specs.View.{none, answer, spans as spanned, counts as counted};
+ghost use Rattle.looking.specs.View.{none, answer};
 ghost use Rattle.accessors.specs.Rows.{pick};
 ghost use Rattle.accessors.specs.Operators.{numbers, spans, counts};
 
@@ -11,10 +11,10 @@ use expressions::expressions::{
     call_expr_direct_member_callee, member_expr, member_expr_member, member_expr_object,
     num_literal_id, self_type, string_literal_value, unary_expr_op, unary_expr_operand,
 };
-use looking::{Count, Spanned, View};
+use looking::{Seen, TokenSpan};
 
 // The accessor with this number, of a node.
-pub(crate) fn view(which: u32, nodes: &[u32], n: u32, i: u32) -> View
+pub(crate) fn view(which: u32, nodes: &[u32], n: u32, i: u32) -> Seen<u32>
     ensures { answer result ≡ pick none (numbers i nodes.now n) which }
 {
     match which {
@@ -34,26 +34,26 @@ pub(crate) fn view(which: u32, nodes: &[u32], n: u32, i: u32) -> View
         number::STRING_LITERAL_VALUE => string_literal_value(nodes, n),
         number::SELF_TYPE => self_type(nodes, n),
         number::BUILTIN_NAME => builtin_name(nodes, n),
-        _ => View::None,
+        _ => Ok(None),
     }
 }
 
 // The accessor that tells tokens with this number, of a node.
-pub(crate) fn span_view(which: u32, nodes: &[u32], n: u32) -> Spanned
-    ensures { spanned result ≡ pick none (spans nodes.now n) which }
+pub(crate) fn span_view(which: u32, nodes: &[u32], n: u32) -> Seen<TokenSpan>
+    ensures { answer result ≡ pick none (spans nodes.now n) which }
 {
     match which {
         number::BINARY_EXPR_OP_SPAN => binary_expr_op_span(nodes, n),
-        _ => Spanned::None,
+        _ => Ok(None),
     }
 }
 
 // The accessor that counts with this number, of a node.
-pub(crate) fn count_view(which: u32, nodes: &[u32], n: u32) -> Count
-    ensures { counted result ≡ pick none (counts nodes.now n) which }
+pub(crate) fn count_view(which: u32, nodes: &[u32], n: u32) -> Seen<usize>
+    ensures { answer result ≡ pick none (counts nodes.now n) which }
 {
     match which {
         number::CALL_EXPR_ARG_COUNT => call_expr_arg_count(nodes, n),
-        _ => Count::None,
+        _ => Ok(None),
     }
 }

@@ -1,11 +1,11 @@
 // Accessors by number: blocks and statements.
 ghost use Rattle.std.specs.Prelude.{◌≡◌};
-ghost use Rattle.looking.specs.View.{none, answer, spans as spanned, counts as counted};
+ghost use Rattle.looking.specs.View.{none, answer};
 ghost use Rattle.accessors.specs.Rows.{pick};
 ghost use Rattle.accessors.specs.Statements.{numbers, spans, counts};
 
 use crate::number;
-use looking::{Count, Spanned, View};
+use looking::{Seen, TokenSpan};
 use views::statements::{
     assign_stmt_target, assign_stmt_value, block, block_end_expr, block_statement,
     block_statement_count, let_stmt, let_stmt_comptime, let_stmt_mutable, let_stmt_name,
@@ -14,7 +14,7 @@ use views::statements::{
 };
 
 // The accessor with this number, of a node.
-pub(crate) fn view(which: u32, nodes: &[u32], n: u32, i: u32) -> View
+pub(crate) fn view(which: u32, nodes: &[u32], n: u32, i: u32) -> Seen<u32>
     ensures { answer result ≡ pick none (numbers i nodes.now n) which }
 {
     match which {
@@ -35,27 +35,27 @@ pub(crate) fn view(which: u32, nodes: &[u32], n: u32, i: u32) -> View
         number::WHILE_STMT_BODY => while_stmt_body(nodes, n),
         number::WHILE_STMT => while_stmt(nodes, n),
         number::STATEMENT => statement(nodes, n),
-        _ => View::None,
+        _ => Ok(None),
     }
 }
 
 // The accessor that tells tokens with this number, of a node.
-pub(crate) fn span_view(which: u32, nodes: &[u32], n: u32) -> Spanned
-    ensures { spanned result ≡ pick none (spans nodes.now n) which }
+pub(crate) fn span_view(which: u32, nodes: &[u32], n: u32) -> Seen<TokenSpan>
+    ensures { answer result ≡ pick none (spans nodes.now n) which }
 {
     match which {
         number::LET_STMT_NAME_SPAN => let_stmt_name_span(nodes, n),
         number::LET_STMT_SPAN => let_stmt_span(nodes, n),
-        _ => Spanned::None,
+        _ => Ok(None),
     }
 }
 
 // The accessor that counts with this number, of a node.
-pub(crate) fn count_view(which: u32, nodes: &[u32], n: u32) -> Count
-    ensures { counted result ≡ pick none (counts nodes.now n) which }
+pub(crate) fn count_view(which: u32, nodes: &[u32], n: u32) -> Seen<usize>
+    ensures { answer result ≡ pick none (counts nodes.now n) which }
 {
     match which {
         number::BLOCK_STATEMENT_COUNT => block_statement_count(nodes, n),
-        _ => Count::None,
+        _ => Ok(None),
     }
 }

@@ -1,6 +1,6 @@
 // Accessors by number: structs, their literals, and tuples.
 ghost use Rattle.std.specs.Prelude.{◌≡◌};
-ghost use Rattle.looking.specs.View.{none, answer, spans as spanned, counts as counted};
+ghost use Rattle.looking.specs.View.{none, answer};
 ghost use Rattle.accessors.specs.Rows.{pick};
 ghost use Rattle.accessors.specs.Structs.{numbers, spans, counts};
 
@@ -12,10 +12,10 @@ use expressions::expressions::{
     struct_lit_field_count, struct_lit_type_expr, tuple_lit_field, tuple_lit_field_count,
     tuple_type_field, tuple_type_field_count,
 };
-use looking::{Count, Spanned, View};
+use looking::{Seen, TokenSpan};
 
 // The accessor with this number, of a node.
-pub(crate) fn view(which: u32, nodes: &[u32], n: u32, i: u32) -> View
+pub(crate) fn view(which: u32, nodes: &[u32], n: u32, i: u32) -> Seen<u32>
     ensures { answer result ≡ pick none (numbers i nodes.now n) which }
 {
     match which {
@@ -30,24 +30,24 @@ pub(crate) fn view(which: u32, nodes: &[u32], n: u32, i: u32) -> View
         number::FIELD_ASSIGN_VALUE => field_assign_value(nodes, n),
         number::TUPLE_TYPE_FIELD => tuple_type_field(nodes, n, i),
         number::TUPLE_LIT_FIELD => tuple_lit_field(nodes, n, i),
-        _ => View::None,
+        _ => Ok(None),
     }
 }
 
 // The accessor that tells tokens with this number, of a node.
-pub(crate) fn span_view(which: u32, nodes: &[u32], n: u32) -> Spanned
-    ensures { spanned result ≡ pick none (spans nodes.now n) which }
+pub(crate) fn span_view(which: u32, nodes: &[u32], n: u32) -> Seen<TokenSpan>
+    ensures { answer result ≡ pick none (spans nodes.now n) which }
 {
     match which {
         number::FIELD_DEF_NAME_SPAN => field_def_name_span(nodes, n),
         number::FIELD_ASSIGN_NAME_SPAN => field_assign_name_span(nodes, n),
-        _ => Spanned::None,
+        _ => Ok(None),
     }
 }
 
 // The accessor that counts with this number, of a node.
-pub(crate) fn count_view(which: u32, nodes: &[u32], n: u32) -> Count
-    ensures { counted result ≡ pick none (counts nodes.now n) which }
+pub(crate) fn count_view(which: u32, nodes: &[u32], n: u32) -> Seen<usize>
+    ensures { answer result ≡ pick none (counts nodes.now n) which }
 {
     match which {
         number::STRUCT_DEF_FIELD_COUNT => struct_def_field_count(nodes, n),
@@ -55,6 +55,6 @@ pub(crate) fn count_view(which: u32, nodes: &[u32], n: u32) -> Count
         number::STRUCT_LIT_FIELD_COUNT => struct_lit_field_count(nodes, n),
         number::TUPLE_TYPE_FIELD_COUNT => tuple_type_field_count(nodes, n),
         number::TUPLE_LIT_FIELD_COUNT => tuple_lit_field_count(nodes, n),
-        _ => Count::None,
+        _ => Ok(None),
     }
 }

@@ -15,7 +15,8 @@ use Rattle.words.specs.Words.{token_kind, token_end, node_head, node_kind, node_
 use Rattle.words.specs.Laws.{high-pack, low-pack}
 use Rattle.utf8.specs.Utf8.{character_at}
 use Rattle.utf8.specs.declared.Character.{Character}
-use Rattle.utf8.specs.declared.Character.TheVariants.{Is, Nothing}
+use Rattle.std.specs.Prelude.{Some, None}
+use Rattle.std.specs.declared.option.Option as Optional
 use Rattle.literals.specs.declared.Span.{Span}
 use Rattle.literals.specs.Spelling.{span, word_at, token_start, covered, spelling, alike, first_from, first_alike}
 use Rattle.literals.specs.Numbers.{nibble, digits, limb_base, limbs_within, limbs, number_value}
@@ -165,11 +166,11 @@ characters-same a b n skip [] = none-same
 characters-same a b n (suc skip) (x ∷ s) = rw (one_on a n, one_on b n) (characters-same a b (n + 1) skip s)
 characters-same a b n zero (x ∷ s) = go (character_at (x ∷ s)) (λ k. rw (one_on a n, one_on b n) (characters-same a b (n + 1) k s))
   where
-    go : (c : Character) → ((k : ℕ) → Same a b (characters_from (a + n + 1) k s) (characters_from (b + n + 1) k s))
-        → Same a b (elim c [ Is c m ↦ char c (a + n) (a + n + m) ∷ characters_from (a + n + 1) (m - 1) s | Nothing ↦ char x (a + n) (a + n + 1) ∷ characters_from (a + n + 1) 0 s ])
-        (elim c [ Is c m ↦ char c (b + n) (b + n + m) ∷ characters_from (b + n + 1) (m - 1) s | Nothing ↦ char x (b + n) (b + n + 1) ∷ characters_from (b + n + 1) 0 s ])
-    go (Is c m) ih = one_same {c = char c (a + n) (a + n + m)} {d = char c (b + n) (b + n + m)} refl (omega arith) (ih (m - 1))
-    go Nothing ih = one_same {c = char x (a + n) (a + n + 1)} {d = char x (b + n) (b + n + 1)} refl (omega arith) (ih 0)
+    go : (c : Optional.Option Character) → ((k : ℕ) → Same a b (characters_from (a + n + 1) k s) (characters_from (b + n + 1) k s))
+        → Same a b (elim c [ Some c ↦ char c.code_point (a + n) (a + n + c.length) ∷ characters_from (a + n + 1) (c.length - 1) s | None ↦ char x (a + n) (a + n + 1) ∷ characters_from (a + n + 1) 0 s ])
+        (elim c [ Some c ↦ char c.code_point (b + n) (b + n + c.length) ∷ characters_from (b + n + 1) (c.length - 1) s | None ↦ char x (b + n) (b + n + 1) ∷ characters_from (b + n + 1) 0 s ])
+    go (Some c) ih = one_same {c = char c.code_point (a + n) (a + n + c.length)} {d = char c.code_point (b + n) (b + n + c.length)} refl (omega arith) (ih (c.length - 1))
+    go None ih = one_same {c = char x (a + n) (a + n + 1)} {d = char x (b + n) (b + n + 1)} refl (omega arith) (ih 0)
 
 -- The same byte, or two reports.
 data Like : Event → Event → Type 0 where
@@ -317,10 +318,10 @@ characters-few at skip [] = omega arith
 characters-few at (suc skip) (b ∷ s) = omega (arith, characters-few (at + 1) skip s)
 characters-few at zero (b ∷ s) = go (character_at (b ∷ s)) (λ k. characters-few (at + 1) k s)
   where
-    go : (c : Character) → ((k : ℕ) → length (characters_from (at + 1) k s) ≤ length s)
-        → length {A = Char} (elim c [ Is c n ↦ char c at (at + n) ∷ characters_from (at + 1) (n - 1) s | Nothing ↦ char b at (at + 1) ∷ characters_from (at + 1) 0 s ]) ≤ suc (length s)
-    go (Is c n) ih = omega (arith, ih (n - 1))
-    go Nothing ih = omega (arith, ih 0)
+    go : (c : Optional.Option Character) → ((k : ℕ) → length (characters_from (at + 1) k s) ≤ length s)
+        → length {A = Char} (elim c [ Some c ↦ char c.code_point at (at + c.length) ∷ characters_from (at + 1) (c.length - 1) s | None ↦ char b at (at + 1) ∷ characters_from (at + 1) 0 s ]) ≤ suc (length s)
+    go (Some c) ih = omega (arith, ih (c.length - 1))
+    go None ih = omega (arith, ih 0)
 
 between-few : (opening : ℕ) (s : List ℕ) → length (between opening s) ≤ length s
 between-few opening s = omega (arith, length-take (length s - (opening + 1)) (drop opening s), length-drop opening s)

@@ -8,7 +8,7 @@ use Rattle.std.proofs.Math.Dec.{eqb, ltb}
 use borrow.Author.Tests.{eqb-true, eq-eqb}
 use Rattle.words.specs.Token
 use Rattle.words.specs.Token.{lex_error}
-use Rattle.words.specs.declared.token.LexError.TheVariants.{Nothing}
+use Rattle.std.specs.Prelude.{None}
 use Rattle.words.specs.Words.{token_kind}
 use Rattle.literals.specs.Spelling.{word_at}
 use Rattle.words.specs.Report
@@ -101,7 +101,7 @@ module _ (s : Setting) where
   pub data Ahead : List Seen → List RowToken → Type 0 where
     over : Ahead [] []
     eof-ahead : {i : ℕ} → Ahead (good i Token.Eof ∷ []) []
-    next : {i k : ℕ} {row : List Seen} {xs : List RowToken} → i < length s.tokens → token_kind (word_at s.tokens i) ≡ k → eqb k Token.Eof ≡ false → lex_error k ≡ Nothing → Ahead row xs
+    next : {i k : ℕ} {row : List Seen} {xs : List RowToken} → i < length s.tokens → token_kind (word_at s.tokens i) ≡ k → eqb k Token.Eof ≡ false → lex_error k ≡ None → Ahead row xs
         → Ahead (good i k ∷ row) (token k (lexeme_of s i) ∷ xs)
 
   -- Where a program begins: the row that is ahead; payloads have room for offsets of values, and loops for the tokens; File is there, and
@@ -125,12 +125,12 @@ module _ (s : Setting) where
     pub shorter : length ys < length xs
 
   -- No token that is ahead is an error.
-  clean-ahead : {row : List Seen} {zs xs : List RowToken} {kind : ℕ} {v : Lexeme} → Ahead row zs → zs ≡ token kind v ∷ xs → lex_error kind ≡ Nothing
+  clean-ahead : {row : List Seen} {zs xs : List RowToken} {kind : ℕ} {v : Lexeme} → Ahead row zs → zs ≡ token kind v ∷ xs → lex_error kind ≡ None
   clean-ahead over q = absurd (let z : ◌≡◌ {A = ℕ} 0 1 = cc in omega arith)
   clean-ahead eof-ahead q = absurd (let z : ◌≡◌ {A = ℕ} 0 1 = cc in omega arith)
   clean-ahead {kind = kind} (next {k = k} l t n c a) q = let z : k ≡ kind = cc in rw z at c
 
-  pub first-clean : (w : World) {xs ys : List RowToken} {kind : ℕ} {v : Lexeme} → Fits w xs → xs ≡ token kind v ∷ ys → lex_error kind ≡ Nothing
+  pub first-clean : (w : World) {xs ys : List RowToken} {kind : ℕ} {v : Lexeme} → Fits w xs → xs ≡ token kind v ∷ ys → lex_error kind ≡ None
   first-clean w f e = clean-ahead f.ahead e
 
   -- What is ahead once a token is passed.

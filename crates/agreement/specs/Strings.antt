@@ -11,8 +11,8 @@ use Rattle.std.proofs.Math.Dec.{eqb}
 use Rattle.std.proofs.Math.ListN.{length, length-append}
 use Rattle.words.specs.Token
 use Rattle.words.specs.Token.{lex_error}
-use Rattle.words.specs.ErrorToken
-use Rattle.words.specs.declared.token.LexError.TheVariants.{Is, Nothing}
+use Rattle.words.specs.declared.error_token.ErrorToken.TheVariants as Case
+use Rattle.std.specs.Prelude.{Some, None}
 use Rattle.words.specs.Node
 use Rattle.words.specs.Words.{node_kind, node_payload, node_head}
 use Rattle.literals.specs.Spelling as Source
@@ -35,11 +35,11 @@ use Rattle.agreement.specs.Steps.{Done, alloc-rule, close_at}
 use Rattle.agreement.specs.Numbers.{built-before}
 
 -- No token that opens a string is an error here.
-no-string-error : (kind : ℕ) → lex_error kind ≡ Nothing → (eqb kind Token.MultilineStringError || eqb kind Token.UnclosedStringError) ≡ false
+no-string-error : (kind : ℕ) → lex_error kind ≡ None → (eqb kind Token.MultilineStringError || eqb kind Token.UnclosedStringError) ≡ false
 unfolding lex_error
 no-string-error kind = go (eqb kind Token.InvalidCharError) (eqb kind Token.MalformedIdentError) (eqb kind Token.MultilineStringError) (eqb kind Token.UnclosedBlockCommentError) (eqb kind Token.UnclosedStringError) (eqb kind Token.AtWithoutIdentError)
   where
-    go : (d e h f i g : Bool) → cond d (Is ErrorToken.InvalidChar) (cond e (Is ErrorToken.MalformedIdent) (cond h (Is ErrorToken.MultilineString) (cond f (Is ErrorToken.UnclosedBlockComment) (cond i (Is ErrorToken.UnclosedString) (cond g (Is ErrorToken.AtWithoutIdent) Nothing))))) ≡ Nothing → (h || i) ≡ false
+    go : (d e h f i g : Bool) → cond d (Some Case.InvalidChar) (cond e (Some Case.MalformedIdent) (cond h (Some Case.MultilineString) (cond f (Some Case.UnclosedBlockComment) (cond i (Some Case.UnclosedString) (cond g (Some Case.AtWithoutIdent) None))))) ≡ None → (h || i) ≡ false
     go true e h f i g q = absurd (let z : ◌≡◌ {A = ℕ} 0 1 = cc in omega arith)
     go false true h f i g q = absurd (let z : ◌≡◌ {A = ℕ} 0 1 = cc in omega arith)
     go false false true f i g q = absurd (let z : ◌≡◌ {A = ℕ} 0 1 = cc in omega arith)

@@ -13,30 +13,22 @@ use Rattle.definition.specs.Strings.{try_parse_string_literal}
 use Rattle.definition.specs.Expressions.{Binary, unwrap_or_error, push_closing, eats, ◌or_else◌, num_literal, Members, members}
 use Rattle.definition.specs.Statements.{Body, body, statement, end_expr_or_stmt, end_expr, nothing}
 use Rattle.definition.specs.Statements.{StmtResult as Result}
-use Rattle.reading.specs.declared.Maybe.{Maybe}
-use Rattle.reading.specs.declared.Maybe.TheVariants.{Some, None}
+use Rattle.std.specs.Prelude.{Option as Maybe, Some, None}
 use Rattle.cst.specs.Cst.{maybe}
-use Rattle.answers.specs.declared.Element.{Element}
-use Rattle.answers.specs.declared.Element.TheVariants.{More, Missing}
-use Rattle.answers.specs.declared.Infix.{Infix}
-use Rattle.answers.specs.declared.Infix.TheVariants.{Is, Nothing}
+use Rattle.answers.specs.declared.Binary.{Binary as Operator}
 use Rattle.answers.specs.declared.StmtResult.{StmtResult}
-use Rattle.answers.specs.declared.StmtResult.TheVariants.{Statement, EndExprOrStmt, EndExpr, Nothing as NoStmt}
+use Rattle.answers.specs.declared.StmtResult.TheVariants.{Statement, EndExprOrStmt, EndExpr}
 use Rattle.answers.specs.declared.Ended.{Ended}
 
 -- ---- answers
 
-abbrev pub element : Element → Option Unfinished
-element (More u) = some u
-element Missing = none
+abbrev pub element : Maybe Unfinished → Option Unfinished
+element (Some u) = some u
+element None = none
 
-abbrev pub operator : Infix → Option Binary
-operator (Is b) = some (record { token = b.token; left = b.left; right = b.right; op = b.op })
-operator Nothing = none
-
-abbrev pub is_some : Maybe → Bool
-is_some (Some n) = true
-is_some None = false
+abbrev pub operator : Maybe Operator → Option Binary
+operator (Some b) = some (record { token = b.token; left = b.left; right = b.right; op = b.op })
+operator None = none
 
 -- ---- reports
 
@@ -186,11 +178,11 @@ separate s = do
 
 -- ---- statements
 
-abbrev pub stmt_result : StmtResult → Result
-stmt_result (Statement n) = statement n
-stmt_result (EndExprOrStmt n) = end_expr_or_stmt n
-stmt_result (EndExpr n) = end_expr n
-stmt_result NoStmt = nothing
+abbrev pub stmt_result : Maybe StmtResult → Result
+stmt_result (Some (Statement n)) = statement n
+stmt_result (Some (EndExprOrStmt n)) = end_expr_or_stmt n
+stmt_result (Some (EndExpr n)) = end_expr n
+stmt_result None = nothing
 
 abbrev pub comptime_error : ℕ → Prog Result
 comptime_error start = do

@@ -1,5 +1,5 @@
 -- Rules for programs that one function does as a part of another's.
-use Rattle.std.specs.Prelude.{◌≡◌, refl, Bool, true, false, ◌||◌, List, [], ◌∷◌, ℕ, ◌≤◌}
+use Rattle.std.specs.Prelude.{◌≡◌, refl, Bool, true, false, ◌||◌, List, [], ◌∷◌, ℕ, ◌≤◌, is_some, Option as Maybe, Some, None}
 use Rattle.std.proofs.Math.Option.{Option, none, some}
 use Rattle.std.proofs.Common.{arith, ne_eqb}
 use Rattle.definition.specs.declared.State.{State}
@@ -7,13 +7,11 @@ use Rattle.definition.specs.Prog.{Prog, Then, Branch, Memory, Out, done, refused
 use Rattle.definition.specs.Tokens.{check, eat}
 use Rattle.definition.specs.Nodes.{flag}
 use Rattle.definition.specs.Expressions.{Binary, binary_of, eats, checks, ◌or_else◌}
-use Rattle.reading.specs.declared.Reading.{Reading}
+use Rattle.reading.specs.declared.parser.Parser.{Parser}
 use Rattle.reading.specs.Does.{Does, then, gives, when_true, when_false}
-use Rattle.reading.specs.declared.Maybe.{Maybe}
-use Rattle.reading.specs.declared.Maybe.TheVariants.{Some, None}
 use Rattle.stream.specs.Delimited.{regroup-both}
 use Rattle.cst.specs.Cst.{maybe}
-use Rattle.answers.specs.Parts.{is_some, one_of}
+use Rattle.answers.specs.Parts.{one_of}
 -- A part of two steps stands for its steps.
 pub use Rattle.stream.specs.Delimited.{regroup as two}
 
@@ -21,43 +19,43 @@ pub bind-same : {A B : Type 0} (x : Out A) (f g : A → State → Memory → Out
 bind-same (done a s m) f g e = e a s m
 bind-same (refused number place) f g e = refl
 
-module _ {text tokens : List ℕ} {d : ℕ} {r r' : Reading} {m m' : Memory} where
+module _ {r r' : Parser} where
   -- `if let Some(node) = p { return Some(node); }`
-  pub or_some : {p q : Prog (Option ℕ)} (x : Maybe) → is_some x ≡ true → Does text tokens d p r m (maybe x) r' m' → Does text tokens d (p or_else q) r m (maybe x) r' m'
+  pub or_some : {p q : Prog (Option ℕ)} (x : Maybe ℕ) → is_some x ≡ true → Does p r (maybe x) r' → Does (p or_else q) r (maybe x) r'
   or_some (Some n) h e = then e gives
   or_some None h e = absurd (let z : ◌≡◌ {A = ℕ} 0 1 = cc in omega arith)
 
-module _ {text tokens : List ℕ} {d : ℕ} {r r₁ r₂ : Reading} {m m₁ m₂ : Memory} where
-  pub or-missed : {p q : Prog (Option ℕ)} {a : Option ℕ} → Does text tokens d p r m none r₁ m₁ → Does text tokens d q r₁ m₁ a r₂ m₂ → Does text tokens d (p or_else q) r m a r₂ m₂
+module _ {r r₁ r₂ : Parser} where
+  pub or-missed : {p q : Prog (Option ℕ)} {a : Option ℕ} → Does p r none r₁ → Does q r₁ a r₂ → Does (p or_else q) r a r₂
   or-missed e g = then e g
 
-  pub or-none : {p q : Prog (Option ℕ)} (x : Maybe) {a : Option ℕ} → is_some x ≡ false → Does text tokens d p r m (maybe x) r₁ m₁ → Does text tokens d q r₁ m₁ a r₂ m₂
-      → Does text tokens d (p or_else q) r m a r₂ m₂
+  pub or-none : {p q : Prog (Option ℕ)} (x : Maybe ℕ) {a : Option ℕ} → is_some x ≡ false → Does p r (maybe x) r₁ → Does q r₁ a r₂
+      → Does (p or_else q) r a r₂
   or-none (Some n) h e g = absurd (let z : ◌≡◌ {A = ℕ} 0 1 = cc in omega arith)
   or-none None h e g = then e g
 
   -- `if self.eat(token) { .. }`, and the same with `check`.
-  pub eats-found : (token : ℕ) {n : ℕ} {b : Bool} {p : Prog ℕ} → Does text tokens d (eat token) r m b r₁ m₁ → b ≡ true → Does text tokens d p r₁ m₁ n r₂ m₂
-      → Does text tokens d (eats token p) r m (some n) r₂ m₂
+  pub eats-found : (token : ℕ) {n : ℕ} {b : Bool} {p : Prog ℕ} → Does (eat token) r b r₁ → b ≡ true → Does p r₁ n r₂
+      → Does (eats token p) r (some n) r₂
   unfolding eats
   eats-found token e h g = then e (when_true h (then g gives))
 
-  pub checks-found : (token : ℕ) {n : ℕ} {b : Bool} {p : Prog ℕ} → Does text tokens d (check token) r m b r₁ m₁ → b ≡ true → Does text tokens d p r₁ m₁ n r₂ m₂
-      → Does text tokens d (checks token p) r m (some n) r₂ m₂
+  pub checks-found : (token : ℕ) {n : ℕ} {b : Bool} {p : Prog ℕ} → Does (check token) r b r₁ → b ≡ true → Does p r₁ n r₂
+      → Does (checks token p) r (some n) r₂
   unfolding checks
   checks-found token e h g = then e (when_true h (then g gives))
 
   -- Both of two tokens are looked for, then one of two ways is gone.
-  pub one-of : {A : Type 0} (first second : ℕ) {b : Bool} {p q : Prog A} {a : A} → Does text tokens d (one_of first second) r m b r₁ m₁ → Does text tokens d (Branch b p q) r₁ m₁ a r₂ m₂
-      → Does text tokens d (Then (check first) (λ x. Then (check second) (λ y. Branch (x || y) p q))) r m a r₂ m₂
+  pub one-of : {A : Type 0} (first second : ℕ) {b : Bool} {p q : Prog A} {a : A} → Does (one_of first second) r b r₁ → Does (Branch b p q) r₁ a r₂
+      → Does (Then (check first) (λ x. Then (check second) (λ y. Branch (x || y) p q))) r a r₂
   one-of first second {p = p} {q = q} e g = regroup-both {f = λ x y. x || y} {g = λ b. Branch b p q} (then e g)
 
-module _ {text tokens : List ℕ} {d : ℕ} {r r₁ : Reading} {m m₁ : Memory} where
-  pub eats-missed : (token : ℕ) (p : Prog ℕ) {b : Bool} → Does text tokens d (eat token) r m b r₁ m₁ → b ≡ false → Does text tokens d (eats token p) r m none r₁ m₁
+module _ {r r₁ : Parser} where
+  pub eats-missed : (token : ℕ) (p : Prog ℕ) {b : Bool} → Does (eat token) r b r₁ → b ≡ false → Does (eats token p) r none r₁
   unfolding eats
   eats-missed token p e h = then e (when_false h gives)
 
-  pub checks-missed : (token : ℕ) (p : Prog ℕ) {b : Bool} → Does text tokens d (check token) r m b r₁ m₁ → b ≡ false → Does text tokens d (checks token p) r m none r₁ m₁
+  pub checks-missed : (token : ℕ) (p : Prog ℕ) {b : Bool} → Does (check token) r b r₁ → b ≡ false → Does (checks token p) r none r₁
   unfolding checks
   checks-missed token p e h = then e (when_false h gives)
 

@@ -7,8 +7,9 @@ use Prim.Native.Nat.{ℕ, zero, suc, ◌≤◌}
 use Rattle.definition.specs.declared.State.{State}
 use Rattle.definition.specs.Prog.{Prog, Give, Then, Branch, give, ◌>>=◌, whether◌then◌else◌, Memory, Out, done, refused, bind, eval}
 use Rattle.definition.specs.Tokens.{eat, if_eat◌then◌else◌}
-use Rattle.reading.specs.declared.Reading.{Reading}
-use Rattle.reading.specs.Does.{Does, run}
+use Rattle.reading.specs.declared.parser.Parser.{Parser}
+use Rattle.reading.specs.Standing.{words}
+use Rattle.reading.specs.Does.{run_of, Does}
 use Rattle.stream.specs.Delimited.{alike, bind-bind}
 use Rattle.answers.specs.Steps.{eat_first}
 use Rattle.answers.specs.Rules.{bind-same}
@@ -44,7 +45,7 @@ tried (way token p ws) q = if_eat token then p else tried ws q
 
 -- Programs that come to the same.
 pub record Same {A : Type 0} (text tokens : List ℕ) (d : ℕ) (p q : Prog A) : Type 0 where
-  pub is : (s : State) (n : Memory) → run text tokens d p s n ≡ run text tokens d q s n
+  pub is : (s : State) (n : Memory) → run_of text tokens d p s n ≡ run_of text tokens d q s n
 
 module _ {text tokens : List ℕ} {d : ℕ} where
   pub also : {A : Type 0} {p q t : Prog A} → Same text tokens d p q → Same text tokens d q t → Same text tokens d p t
@@ -56,14 +57,14 @@ module _ {text tokens : List ℕ} {d : ℕ} where
 
   pub then_same : {A B : Type 0} (p : Prog A) {f g : A → Prog B} → ((a : A) → Same text tokens d (f a) (g a)) → Same text tokens d (Then p f) (Then p g)
   unfolding eval
-  then_same p {f = f} {g = g} e = record { is = λ s n. bind-same (run text tokens d p s n) (λ a u k. run text tokens d (f a) u k) (λ a u k. run text tokens d (g a) u k) (λ a u k. (e a).is u k) }
+  then_same p {f = f} {g = g} e = record { is = λ s n. bind-same (run_of text tokens d p s n) (λ a u k. run_of text tokens d (f a) u k) (λ a u k. run_of text tokens d (g a) u k) (λ a u k. (e a).is u k) }
 
   pub back : {A : Type 0} {p q : Prog A} → Same text tokens d p q → Same text tokens d q p
   back e = record { is = λ s n. sym (e.is s n) }
 
   pub first-same : {A B : Type 0} {p q : Prog A} (f : A → Prog B) → Same text tokens d p q → Same text tokens d (Then p f) (Then q f)
   unfolding eval
-  first-same f e = record { is = λ s n. ap (λ o. bind o (λ a u k. run text tokens d (f a) u k)) (e.is s n) }
+  first-same f e = record { is = λ s n. ap (λ o. bind o (λ a u k. run_of text tokens d (f a) u k)) (e.is s n) }
 
   pub branch_same : {A : Type 0} (b : Bool) {p q p' q' : Prog A} → Same text tokens d p p' → Same text tokens d q q' → Same text tokens d (Branch b p q) (Branch b p' q')
   unfolding eval
@@ -95,6 +96,5 @@ module _ {text tokens : List ℕ} {d : ℕ} where
       ways e false = record { is = λ s n. unfold eval in ((also rest e).is s n) }
 
 -- What does a program's steps does the program.
-pub regrouped : {text tokens : List ℕ} {d : ℕ} {A : Type 0} {p q : Prog A} {a : A} {r r' : Reading} {m m' : Memory}
-    → Same text tokens d p q → Does text tokens d p r m a r' m' → Does text tokens d q r m a r' m'
-regrouped {r = r} {m = m} e g = alike (e.is r.state m) g
+pub regrouped : {A : Type 0} {p q : Prog A} {a : A} {r r' : Parser} → Same r.text.now r.tokens.now r.levels p q → Does p r a r' → Does q r a r'
+regrouped {r = r} e g = alike (e.is r.state (words r)) g

@@ -1,6 +1,7 @@
 -- The steps of a reader that lie between two calls of readers, as programs; and the answers as the definition has them.
 use Rattle.std.specs.Prelude.{Bool, true, false, ◌&&◌, List, [], ◌∷◌, ℕ, suc, ltb}
 use Rattle.std.proofs.Math.Option.{Option, none, some}
+use Rattle.std.specs.Prelude.{Option as Maybe, Some, None}
 use Rattle.words.specs.Token
 use Rattle.words.specs.Node
 use Rattle.words.specs.Flag
@@ -17,13 +18,13 @@ use Rattle.answers.specs.declared.Longer.{Longer}
 use Rattle.answers.specs.declared.Prefixed.{Prefixed}
 use Rattle.answers.specs.declared.Infixed.{Infixed}
 use Rattle.answers.specs.declared.Goes.{Goes}
-use Rattle.answers.specs.declared.Goes.TheVariants.{Member, Call, Literal, Nowhere}
+use Rattle.answers.specs.declared.Goes.TheVariants.{Member, Call, Literal}
 use Rattle.answers.specs.declared.Brackets.{Brackets}
 use Rattle.answers.specs.declared.Brackets.TheVariants.{Empty, Open}
 use Rattle.answers.specs.declared.Param.{Param}
-use Rattle.answers.specs.declared.Param.TheVariants.{Missing, Any, Wants}
+use Rattle.answers.specs.declared.Param.TheVariants.{Any, Wants}
 use Rattle.answers.specs.declared.Else.{Else}
-use Rattle.answers.specs.declared.Else.TheVariants.{Missing as NoElse, If, Last}
+use Rattle.answers.specs.declared.Else.TheVariants.{If, Last}
 use Rattle.answers.specs.declared.LetHead.{LetHead}
 use Rattle.answers.specs.declared.After.{After}
 use Rattle.answers.specs.declared.After.TheVariants.{Assign, Whole}
@@ -97,11 +98,11 @@ pub data Going : Type 0 where
   member : ℕ → Going
   call literal_of nowhere : Going
 
-abbrev pub postfix_of : Goes → Going
-postfix_of (Member n) = member n
-postfix_of Call = call
-postfix_of Literal = literal_of
-postfix_of Nowhere = nowhere
+abbrev pub postfix_of : Maybe Goes → Going
+postfix_of (Some (Member n)) = member n
+postfix_of (Some Call) = call
+postfix_of (Some Literal) = literal_of
+postfix_of None = nowhere
 
 abbrev pub postfix_kind : Mode → ℕ → ℕ → ℕ → Prog Going
 postfix_kind mode min_bp start expr = do
@@ -214,10 +215,10 @@ pub data Parameter : Type 0 where
   any_typed : Unfinished → ℕ → Parameter
   wants : Unfinished → Parameter
 
-abbrev pub param_of : Param → Parameter
-param_of Missing = missing
-param_of (Any u n) = any_typed u n
-param_of (Wants u) = wants u
+abbrev pub param_of : Maybe Param → Parameter
+param_of None = missing
+param_of (Some (Any u n)) = any_typed u n
+param_of (Some (Wants u)) = wants u
 
 abbrev pub param_head : Prog Parameter
 param_head = do
@@ -269,10 +270,10 @@ pub data Elsewise : Type 0 where
   else_if : ℕ → Elsewise
   else_last : Elsewise
 
-abbrev pub else_of : Else → Elsewise
-else_of NoElse = no_else
-else_of (If start) = else_if start
-else_of Last = else_last
+abbrev pub else_of : Maybe Else → Elsewise
+else_of None = no_else
+else_of (Some (If start)) = else_if start
+else_of (Some Last) = else_last
 
 abbrev pub else_kind : Prog Elsewise
 else_kind =
@@ -346,7 +347,7 @@ pub data Afterwards : Type 0 where
 
 abbrev pub after_of : After → Afterwards
 after_of Assign = assigns
-after_of (Whole r) = whole (stmt_result r)
+after_of (Whole r) = whole (stmt_result (Some r))
 
 abbrev pub after_expr : ℕ → Prog Afterwards
 after_expr expr =

@@ -8,25 +8,11 @@ ghost use Rattle.definition.specs.Nodes.{flag};
 ghost use Rattle.definition.specs.Expressions.{allows_struct_literal, binaries, binary, binary_of, unary_of};
 ghost use Rattle.definition.specs.Statements.{requires_semi, let_flags};
 ghost use Rattle.cst.specs.Cst.{maybe};
-ghost use Rattle.answers.specs.Parts.{operator, is_some};
+ghost use Rattle.answers.specs.Parts.{operator};
 
 use definition::{Mode, Unfinished};
-use reading::{Maybe, Reading};
 use stream::contains;
 use words::{binary_op, flag, node, token, unary_op};
-
-// What a list comes to with one element more, where there is one.
-#[derive(Clone, Copy)]
-pub enum Element {
-    More(Unfinished),
-    Missing,
-}
-
-#[derive(Clone, Copy)]
-pub struct Listed {
-    pub at: Reading,
-    pub it: Element,
-}
 
 // A binary operator: its token, its left and its right priority, and its number in `BinaryOp`.
 #[derive(Clone, Copy)]
@@ -37,31 +23,12 @@ pub struct Binary {
     pub op: u32,
 }
 
-#[derive(Clone, Copy)]
-pub enum Infix {
-    Is(Binary),
-    Nothing,
-}
-
-#[derive(Clone, Copy)]
-pub struct Operator {
-    pub at: Reading,
-    pub it: Infix,
-}
-
-// `Option<StmtResult>`
+// `StmtResult`
 #[derive(Clone, Copy)]
 pub enum StmtResult {
     Statement(u32),
     EndExprOrStmt(u32),
     EndExpr(u32),
-    Nothing,
-}
-
-#[derive(Clone, Copy)]
-pub struct Stmt {
-    pub at: Reading,
-    pub it: StmtResult,
 }
 
 // What a flag adds to a payload.
@@ -85,25 +52,21 @@ pub fn glob_flags(public: bool) -> u32
 }
 
 // The prefix operator that a token is.
-pub fn unary_of(token: u32) -> Maybe
+pub fn unary_of(token: u32) -> Option<u32>
     ensures { maybe result ≡ unary_of token }
 {
-    if token == token::MINUS {
-        return Maybe::Some(unary_op::MINUS);
+    match token {
+        token::MINUS => Some(unary_op::MINUS),
+        token::BANG => Some(unary_op::BANG),
+        token::TILDE => Some(unary_op::TILDE),
+        _ => None,
     }
-    if token == token::BANG {
-        return Maybe::Some(unary_op::BANG);
-    }
-    if token == token::TILDE {
-        return Maybe::Some(unary_op::TILDE);
-    }
-    Maybe::None
 }
 
-fn level(token: u32, left: u32, right: u32, op: u32) -> Infix
+fn level(token: u32, left: u32, right: u32, op: u32) -> Option<Binary>
     ensures { operator result ≡ some (binary token left right op) }
 {
-    Infix::Is(Binary {
+    Some(Binary {
         token,
         left,
         right,
@@ -112,7 +75,7 @@ fn level(token: u32, left: u32, right: u32, op: u32) -> Infix
 }
 
 // The binary operator that a token is.
-pub fn binary_of(token: u32) -> Infix
+pub fn binary_of(token: u32) -> Option<Binary>
     ensures { operator result ≡ binary_of binaries token }
 {
     match token {
@@ -141,7 +104,7 @@ pub fn binary_of(token: u32) -> Infix
         token::MINUS_SLASH => level(token, 17, 18, binary_op::MINUS_SLASH),
         token::LESS_SLASH => level(token, 17, 18, binary_op::LESS_SLASH),
         token::GREATER_SLASH => level(token, 17, 18, binary_op::GREATER_SLASH),
-        _ => Infix::Nothing,
+        _ => None,
     }
 }
 
@@ -151,15 +114,6 @@ pub fn allows_struct_literal(mode: Mode, tried: bool) -> bool
     match mode {
         Mode::AllowAll => tried,
         Mode::NoPostFixCurlyBrace => false,
-    }
-}
-
-pub fn is_some(found: Maybe) -> bool
-    ensures { result ≡ is_some found }
-{
-    match found {
-        Maybe::Some(n) => true,
-        Maybe::None => false,
     }
 }
 
@@ -191,16 +145,14 @@ const NO_SEMI: [u32; 5] = [
 // The statements with an expression that no semicolon follows: it closes the block, or is a statement whose semicolon is missing.
 #[derive(Clone, Copy)]
 pub struct Ended {
-    pub at: Reading,
     pub list: Unfinished,
-    pub closing: Maybe,
+    pub closing: Option<u32>,
     pub last: bool,
 }
 
 // A node, and whether what is read goes on.
 #[derive(Clone, Copy)]
 pub struct Longer {
-    pub at: Reading,
     pub it: Unfinished,
     pub on: bool,
 }
@@ -208,31 +160,21 @@ pub struct Longer {
 // A node and a list in it, both open.
 #[derive(Clone, Copy)]
 pub struct Two {
-    pub at: Reading,
     pub outer: Unfinished,
     pub inner: Unfinished,
-}
-
-// A place in a list, or its length.
-#[derive(Clone, Copy)]
-pub struct Placed {
-    pub at: Reading,
-    pub it: usize,
 }
 
 // Where an expression starts, and its prefix operator's node.
 #[derive(Clone, Copy)]
 pub struct Prefixed {
-    pub at: Reading,
     pub start: u32,
-    pub it: Element,
+    pub it: Option<Unfinished>,
 }
 
 // A binary expression up to its right operand, and that one's priority.
 #[derive(Clone, Copy)]
 pub struct Infixed {
-    pub at: Reading,
-    pub it: Element,
+    pub it: Option<Unfinished>,
     pub right: u32,
 }
 
@@ -242,13 +184,6 @@ pub enum Goes {
     Member(u32),
     Call,
     Literal,
-    Nowhere,
-}
-
-#[derive(Clone, Copy)]
-pub struct Postfix {
-    pub at: Reading,
-    pub it: Goes,
 }
 
 // After `(`: an empty tuple, or what stands in the brackets begins.
@@ -258,44 +193,23 @@ pub enum Brackets {
     Open(Unfinished),
 }
 
-#[derive(Clone, Copy)]
-pub struct ParenStart {
-    pub at: Reading,
-    pub it: Brackets,
-}
-
-// A parameter up to its type: none begins; its type is `$` and a name; its type is an expression.
+// A parameter up to its type: its type is `$` and a name; its type is an expression.
 #[derive(Clone, Copy)]
 pub enum Param {
-    Missing,
     Any(Unfinished, u32),
     Wants(Unfinished),
 }
 
-#[derive(Clone, Copy)]
-pub struct ParamHead {
-    pub at: Reading,
-    pub it: Param,
-}
-
-// What an `else` begins, and where: none is there; an `if` follows; a block follows.
+// What an `else` begins, and where: an `if` follows; a block follows.
 #[derive(Clone, Copy)]
 pub enum Else {
-    Missing,
     If(u32),
     Last,
-}
-
-#[derive(Clone, Copy)]
-pub struct ElseKind {
-    pub at: Reading,
-    pub it: Else,
 }
 
 // A `let` up to the colon of its type.
 #[derive(Clone, Copy)]
 pub struct LetHead {
-    pub at: Reading,
     pub it: Unfinished,
     pub mutable: bool,
     pub typed: bool,
@@ -306,10 +220,4 @@ pub struct LetHead {
 pub enum After {
     Assign,
     Whole(StmtResult),
-}
-
-#[derive(Clone, Copy)]
-pub struct AfterExpr {
-    pub at: Reading,
-    pub it: After,
 }

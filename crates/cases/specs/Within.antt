@@ -1,8 +1,6 @@
 -- That a record's parts lie within the data.
-use Rattle.std.specs.Prelude.{ℕ, ◌≤◌}
+use Rattle.std.specs.Prelude.{ℕ, ◌≤◌, Option, Some, None}
 use Rattle.cases.specs.declared.lexed.Record.{Record}
-use Rattle.cases.specs.declared.lexed.Found.{Found}
-use Rattle.cases.specs.declared.lexed.Found.TheVariants.{At, Cut}
 
 -- The text from `start` to `end` and the words from `words` to `next`, in data of `size` bytes.
 pub record Within (r : Record) (size : ℕ) : Type 0 where
@@ -11,6 +9,6 @@ pub record Within (r : Record) (size : ℕ) : Type 0 where
   pub words-order : r.words ≤ r.next
   pub words-end : r.next ≤ size
 
-abbrev pub FoundWithin : Found → ℕ → Type 0
-FoundWithin (At r) size = Within r size
-FoundWithin Cut size = Unit {0}
+abbrev pub FoundWithin : Option Record → ℕ → Type 0
+FoundWithin (Some r) size = Within r size
+FoundWithin None size = Unit {0}

@@ -7,7 +7,7 @@ use lexer::Lexed;
 use std::fs;
 use std::io::{self, Read};
 use std::rt::Files;
-use words::refusal;
+use words::Refusal;
 
 // Where a record's parts lie in the data: the text, and the words of its tokens; of a text that is refused, which has 0 for the
 // number of tokens, the refusal's number and place.
@@ -20,18 +20,11 @@ struct Record {
     count: usize,
 }
 
+// What a record's replay showed, and where the next record starts.
 #[derive(Clone, Copy)]
-enum Found {
-    At(Record),
-    Cut,
-}
-
-// What a record's replay showed; the place is where the next record starts.
-#[derive(Clone, Copy)]
-enum Turn {
-    Same(usize),
-    Differs(usize),
-    Cut,
+pub(crate) struct Turn {
+    pub is_same: bool,
+    pub next: usize,
 }
 
 // The most bytes of data that are read.
@@ -40,73 +33,53 @@ const LONGEST_DATA: usize = 196608;
 // What the lent words hold before each call: no token's word.
 const PATTERN: u32 = 0xa5a5a5a5;
 
-fn wide(x: u8) -> u32
-    ensures { result < 256 }
-{
-    x as u32
-}
-
 // A number of the data: 4 bytes, least first.
 pub(crate) fn number(file: &[u8], at: usize) -> u32
     requires { at + 4 ≤ length file.now }
 {
-    wide(file[at])
-        + wide(file[at + 1]) * 256
-        + wide(file[at + 2]) * 65536
-        + wide(file[at + 3]) * 16777216
+    u32::from_le_bytes([file[at], file[at + 1], file[at + 2], file[at + 3]])
 }
 
 // How many words a record has behind the number of its tokens.
 fn words_of(count: u32) -> u32 {
-    if count == 0 {
-        return 2;
-    }
-    count
+    if count == 0 { 2 } else { count }
 }
 
-// The record at a place, or that the data end inside it.
-fn record_at(file: &[u8], at: usize) -> Found
+// The record at a place; none where the data end inside it.
+fn record_at(file: &[u8], at: usize) -> Option<Record>
     ensures { FoundWithin result (length file.now) }
 {
     let size = file.len();
-    if size < at {
-        return Found::Cut;
-    }
-    if size - at < 4 {
-        return Found::Cut;
+    if size < at || size - at < 4 {
+        return None;
     }
     let length = number(file, at) as usize;
     let start = at + 4;
     if size - start < length {
-        return Found::Cut;
+        return None;
     }
     let end = start + length;
-    let padded = start + (length + 3) / 4 * 4;
+    let padded = start + length.div_ceil(4) * 4;
     if size < padded + 4 {
-        return Found::Cut;
+        return None;
     }
     let count = number(file, padded);
     let words = padded + 4;
     let bytes = words_of(count) as usize * 4;
     if size - words < bytes {
-        return Found::Cut;
+        return None;
     }
-    let next = words + bytes;
-    Found::At(Record {
+    Some(Record {
         start,
         end,
         words,
-        next,
+        next: words + bytes,
         count: count as usize,
     })
 }
 
 pub(crate) fn mark(words: &mut [u32]) {
-    let mut i = 0;
-    while i < words.len() {
-        words[i] = PATTERN;
-        i += 1;
-    }
+    words.fill(PATTERN);
 }
 
 // The i-th of the recorded words; 0 behind the last.
@@ -120,12 +93,10 @@ fn word_at(recorded: &[u8], i: usize) -> u32 {
 
 // Whether the words are the recorded ones, and 0 behind those.
 pub(crate) fn is_recorded(words: &[u32], recorded: &[u8]) -> bool {
-    let mut i = 0;
-    while i < words.len() {
-        if words[i] != word_at(recorded, i) {
+    for (i, word) in words.iter().enumerate() {
+        if *word != word_at(recorded, i) {
             return false;
         }
-        i += 1;
     }
     true
 }
@@ -147,43 +118,38 @@ fn is_given(
     tokens: &mut [u32],
 ) -> bool {
     mark(tokens);
-    match lex(branching, text, tokens) {
-        Lexed::Tokens(n) => {
-            if n == count {
-                is_recorded(tokens, recorded)
-            } else {
-                false
-            }
-        }
-        Lexed::Refused(_, _) => false,
-    }
+    lex(branching, text, tokens) == Ok(count) && is_recorded(tokens, recorded)
 }
 
 // Whether the lexer refuses with this number and place, and leaves 0 in every word.
-fn is_refused(branching: bool, text: &[u8], number: u32, place: usize, tokens: &mut [u32]) -> bool {
+fn is_refused(branching: bool, text: &[u8], number: u32, place: u32, tokens: &mut [u32]) -> bool {
     mark(tokens);
-    match lex(branching, text, tokens) {
-        Lexed::Tokens(_) => false,
-        Lexed::Refused(by, at) => {
-            if by != number {
-                return false;
-            }
-            if at != place {
-                return false;
-            }
-            is_recorded(tokens, &[])
-        }
-    }
+    let Err(refused) = lex(branching, text, tokens) else {
+        return false;
+    };
+    refused.number() == number && refused.place == place && is_recorded(tokens, &[])
 }
 
 // Whether the lexer refuses as recorded, with no words and with plenty.
 fn is_always_refused(branching: bool, text: &[u8], recorded: &[u8], tokens: &mut [u32]) -> bool {
     let number = word_at(recorded, 0);
-    let place = word_at(recorded, 1) as usize;
-    if !is_refused(branching, text, number, place, &mut tokens[..0]) {
+    let place = word_at(recorded, 1);
+    is_refused(branching, text, number, place, &mut tokens[..0])
+        && is_refused(branching, text, number, place, tokens)
+}
+
+// Whether the lexer refuses where fewer words are lent than there are tokens.
+fn is_short(branching: bool, text: &[u8], count: usize, tokens: &mut [u32]) -> bool {
+    let Ok(needed) = u32::try_from(count) else {
         return false;
-    }
-    is_refused(branching, text, number, place, tokens)
+    };
+    is_refused(
+        branching,
+        text,
+        Refusal::TokensDontFit.number(),
+        needed,
+        tokens,
+    )
 }
 
 // Whether the lexer answers as recorded with exactly as many words as needed, one more, one less, and none.
@@ -200,115 +166,76 @@ fn is_same(
     if tokens.len() <= count {
         return false;
     }
-    if !is_given(branching, text, recorded, count, &mut tokens[..count]) {
-        return false;
-    }
-    let more = count + 1;
-    if !is_given(branching, text, recorded, count, &mut tokens[..more]) {
-        return false;
-    }
-    let less = count - 1;
-    if !is_refused(
-        branching,
-        text,
-        refusal::TOKENS_DONT_FIT,
-        count,
-        &mut tokens[..less],
-    ) {
-        return false;
-    }
-    is_refused(
-        branching,
-        text,
-        refusal::TOKENS_DONT_FIT,
-        count,
-        &mut tokens[..0],
-    )
+    is_given(branching, text, recorded, count, &mut tokens[..count])
+        && is_given(branching, text, recorded, count, &mut tokens[..count + 1])
+        && is_short(branching, text, count, &mut tokens[..count - 1])
+        && is_short(branching, text, count, &mut tokens[..0])
 }
 
 // Both lexers are held to the record.
 fn is_record_same(file: &[u8], r: Record, tokens: &mut [u32]) -> bool
     requires { Within r (length file.now) }
 {
-    let start = r.start;
-    let end = r.end;
-    let words = r.words;
-    let next = r.next;
-    if !is_same(
-        false,
-        &file[start..end],
-        &file[words..next],
-        r.count,
-        tokens,
-    ) {
-        return false;
-    }
-    is_same(true, &file[start..end], &file[words..next], r.count, tokens)
+    let text = &file[r.start..r.end];
+    let recorded = &file[r.words..r.next];
+    is_same(false, text, recorded, r.count, tokens)
+        && is_same(true, text, recorded, r.count, tokens)
 }
 
-fn replay_record(file: &[u8], at: usize, tokens: &mut [u32]) -> Turn {
-    match record_at(file, at) {
-        Found::At(r) => {
-            if is_record_same(file, r, tokens) {
-                Turn::Same(r.next)
-            } else {
-                Turn::Differs(r.next)
-            }
-        }
-        Found::Cut => Turn::Cut,
-    }
+fn replay_record(file: &[u8], at: usize, tokens: &mut [u32]) -> Option<Turn> {
+    let r = record_at(file, at)?;
+    Some(Turn {
+        is_same: is_record_same(file, r, tokens),
+        next: r.next,
+    })
 }
 
-fn print_differs(rt: &impl Print, n: usize) -> io::Result<()> {
-    println!(rt; "text {n} differs")
-}
-
-fn print_cut(rt: &impl Print, n: usize) -> io::Result<()> {
-    println!(rt; "data cut at record {n}")
-}
-
-fn print_end(
+// Replays the records of so many bytes of data, one at a time; they are counted from 1. For people, `text` is what is replayed, and `record`
+// what it stands in.
+pub(crate) fn replay<F: FnMut(usize) -> Option<Turn>>(
     rt: &impl Print,
+    text: &str,
+    record: &str,
     size: usize,
-    at: usize,
-    texts: usize,
-    differences: usize,
-) -> io::Result<()> {
-    if at != size {
-        println!(rt; "data go on after record {texts}")?;
-    }
-    println!(rt; "{texts} texts, {differences} differences")
-}
-
-// The records are counted from 1.
-fn replay(rt: &impl Print, file: &[u8], tokens: &mut [u32], records: u32) -> io::Result<()> {
-    let mut n: u32 = 0;
+    records: u32,
+    mut turn: F,
+) -> io::Result<()>
+    requires { F.IsAlwaysCallable turn }
+{
     let mut at = 4;
     let mut differences: u32 = 0;
-    while n < records {
-        n += 1;
-        match replay_record(file, at, tokens) {
-            Turn::Same(next) => {
-                at = next;
-            }
-            Turn::Differs(next) => {
-                print_differs(rt, n as usize)?;
-                differences += 1;
-                at = next;
-            }
-            Turn::Cut => return print_cut(rt, n as usize),
+    for n in 0..records {
+        let number = n + 1;
+        let Some(Turn { is_same, next }) = turn(at) else {
+            return println!(rt; "data cut at {record} {number}");
+        };
+        if !is_same {
+            println!(rt; "{text} {number} differs")?;
+            differences += 1;
         }
+        at = next;
     }
-    print_end(rt, file.len(), at, n as usize, differences as usize)
+    if at != size {
+        println!(rt; "data go on after {record} {records}")?;
+    }
+    println!(rt; "{records} {text}s, {differences} differences")
 }
 
 // No record of so much data has more tokens than there is room for.
 fn replay_all(rt: &impl Print, file: &[u8]) -> io::Result<()> {
     if file.len() < 4 {
-        return print_cut(rt, 0);
+        return println!(rt; "data cut at record 0");
     }
     let mut tokens = [0u32; 49152];
-    replay(rt, file, &mut tokens, number(file, 0))
+    let records = number(file, 0);
+    replay(
+        rt,
+        "text",
+        "record",
+        file.len(),
+        records,
+        |at| replay_record(file, at, &mut tokens),
+    )
 }
 
 // What a file begins with, up to one byte more than is taken, which shows that there is more.

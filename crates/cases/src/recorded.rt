@@ -1,6 +1,5 @@
 // How the recorded answers of the Rust parser (data/parsed of crate cases) lie in the data.
 use crate::lexed::{is_recorded, number};
-use std::io;
 
 // Where a record's parts lie in the data: the text, the words of nodes, values and reports, one behind the other, and the
 // tries.
@@ -16,14 +15,8 @@ pub(crate) struct Tree {
     pub next: usize,
 }
 
-#[derive(Clone, Copy)]
-pub(crate) enum Found {
-    At(Tree),
-    Cut,
-}
-
 // How many words are lent, and the refusal's number and place; 0 and 0 where it is done.
-#[derive(Clone, Copy)]
+#[derive(Clone, Copy, Default)]
 pub(crate) struct Try {
     pub nodes: usize,
     pub values: usize,
@@ -41,10 +34,7 @@ pub(crate) const TRY_BYTES: usize = 20;
 // A number of the data; 0 where the data end before it.
 pub(crate) fn number_at(file: &[u8], at: usize) -> u32 {
     let size = file.len();
-    if size < 4 {
-        return 0;
-    }
-    if size - 4 < at {
+    if size < 4 || size - 4 < at {
         return 0;
     }
     number(file, at)
@@ -52,31 +42,25 @@ pub(crate) fn number_at(file: &[u8], at: usize) -> u32 {
 
 // A part of the data; none where its ends fall or pass the data.
 pub(crate) fn part(file: &[u8], start: usize, end: usize) -> &[u8] {
-    if end < start {
-        return &file[..0];
-    }
-    if file.len() < end {
+    if end < start || file.len() < end {
         return &file[..0];
     }
     &file[start..end]
 }
 
-// The record at a place, or that the data end inside it.
-pub(crate) fn tree_at(file: &[u8], at: usize) -> Found {
+// The record at a place; none where the data end inside it.
+pub(crate) fn tree_at(file: &[u8], at: usize) -> Option<Tree> {
     let size = file.len();
     // So that no sum wraps.
-    if LONGEST_DATA < size {
-        return Found::Cut;
-    }
-    if size < at {
-        return Found::Cut;
+    if LONGEST_DATA < size || size < at {
+        return None;
     }
     let length = number_at(file, at) as usize;
     if size - at < length {
-        return Found::Cut;
+        return None;
     }
     let text = at + 4;
-    let counts = text + (length + 3) / 4 * 4;
+    let counts = text + length.div_ceil(4) * 4;
     let nodes = counts + 12;
     let values = nodes + number_at(file, counts) as usize * 4;
     let reports = values + number_at(file, counts + 4) as usize * 4;
@@ -84,12 +68,11 @@ pub(crate) fn tree_at(file: &[u8], at: usize) -> Found {
     let tries = words_end + 4;
     let next = tries + number_at(file, words_end) as usize * TRY_BYTES;
     if size < next {
-        return Found::Cut;
+        return None;
     }
-    let text_end = text + length;
-    Found::At(Tree {
+    Some(Tree {
         text,
-        text_end,
+        text_end: text + length,
         nodes,
         values,
         reports,
@@ -103,33 +86,15 @@ pub(crate) fn tree_at(file: &[u8], at: usize) -> Found {
 pub(crate) fn try_at(file: &[u8], at: usize) -> Try {
     // So that no sum wraps.
     if LONGEST_DATA < at {
-        return Try {
-            nodes: 0,
-            values: 0,
-            reports: 0,
-            number: 0,
-            place: 0,
-        };
+        return Try::default();
     }
-    let nodes = number_at(file, at) as usize;
-    let values = number_at(file, at + 4) as usize;
-    let reports = number_at(file, at + 8) as usize;
-    let number = number_at(file, at + 12);
-    let place = number_at(file, at + 16);
     Try {
-        nodes,
-        values,
-        reports,
-        number,
-        place,
+        nodes: number_at(file, at) as usize,
+        values: number_at(file, at + 4) as usize,
+        reports: number_at(file, at + 8) as usize,
+        number: number_at(file, at + 12),
+        place: number_at(file, at + 16),
     }
-}
-
-pub(crate) fn bytes_between(start: usize, end: usize) -> usize {
-    if end < start {
-        return 0;
-    }
-    end - start
 }
 
 // A node's six words, as recorded.
@@ -137,13 +102,9 @@ const NODE_BYTES: usize = 24;
 
 // Whether so many nodes, value words and reports are recorded.
 pub(crate) fn are_counts(tree: Tree, n: usize, v: usize, r: usize) -> bool {
-    if n != bytes_between(tree.nodes, tree.values) / NODE_BYTES {
-        return false;
-    }
-    if v != bytes_between(tree.values, tree.reports) / 4 {
-        return false;
-    }
-    r == bytes_between(tree.reports, tree.words_end) / 12
+    n == tree.values.saturating_sub(tree.nodes) / NODE_BYTES
+        && v == tree.reports.saturating_sub(tree.values) / 4
+        && r == tree.words_end.saturating_sub(tree.reports) / 12
 }
 
 // Whether all words are the recorded ones, and 0 behind those.
@@ -154,43 +115,12 @@ pub(crate) fn are_recorded(
     values: &[u32],
     reports: &[u32],
 ) -> bool {
-    if !is_recorded(nodes, part(file, tree.nodes, tree.values)) {
-        return false;
-    }
-    if !is_recorded(values, part(file, tree.values, tree.reports)) {
-        return false;
-    }
-    is_recorded(reports, part(file, tree.reports, tree.words_end))
+    is_recorded(nodes, part(file, tree.nodes, tree.values))
+        && is_recorded(values, part(file, tree.values, tree.reports))
+        && is_recorded(reports, part(file, tree.reports, tree.words_end))
 }
 
 // Whether every word is 0.
 pub(crate) fn are_zero(nodes: &[u32], values: &[u32], reports: &[u32]) -> bool {
-    if !is_recorded(nodes, &[]) {
-        return false;
-    }
-    if !is_recorded(values, &[]) {
-        return false;
-    }
-    is_recorded(reports, &[])
-}
-
-pub(crate) fn print_differs(rt: &impl Print, n: usize) -> io::Result<()> {
-    println!(rt; "tree {n} differs")
-}
-
-pub(crate) fn print_cut(rt: &impl Print, n: usize) -> io::Result<()> {
-    println!(rt; "data cut at tree {n}")
-}
-
-pub(crate) fn print_end(
-    rt: &impl Print,
-    size: usize,
-    at: usize,
-    trees: usize,
-    differences: usize,
-) -> io::Result<()> {
-    if at != size {
-        println!(rt; "data go on after tree {trees}")?;
-    }
-    println!(rt; "{trees} trees, {differences} differences")
+    is_recorded(nodes, &[]) && is_recorded(values, &[]) && is_recorded(reports, &[])
 }

@@ -1,20 +1,10 @@
 // Replays the recorded answers of the Rust parser (data/parsed) and says which texts the parser answers otherwise.
-use crate::lexed::{beginning, mark, number};
+use crate::lexed::{Turn, beginning, mark, number, replay};
 use crate::recorded::{
-    Found, LONGEST_DATA, TRY_BYTES, Tree, Try, are_counts, are_recorded, are_zero, part, print_cut,
-    print_differs, print_end, tree_at, try_at,
+    LONGEST_DATA, TRY_BYTES, Tree, Try, are_counts, are_recorded, are_zero, part, tree_at, try_at,
 };
-use lexer::Lexed;
 use parser::Parsed;
 use std::io;
-
-// What a record's replay showed; the place is where the next record starts.
-#[derive(Clone, Copy)]
-enum Turn {
-    Same(usize),
-    Differs(usize),
-    Cut,
-}
 
 // What the parser answers; the words that are lent hold the pattern before.
 fn parse_marked(
@@ -42,23 +32,15 @@ fn is_answered(
 ) -> bool {
     let text = part(file, tree.text, tree.text_end);
     match parse_marked(text, tokens, nodes, values, reports) {
-        Parsed::Counts(n, v, r) => {
-            if t.number != 0 {
-                return false;
-            }
-            if !are_counts(tree, n as usize, v, r) {
-                return false;
-            }
-            are_recorded(file, tree, nodes, values, reports)
+        Ok(counts) => {
+            t.number == 0
+                && are_counts(tree, counts.nodes as usize, counts.values, counts.reports)
+                && are_recorded(file, tree, nodes, values, reports)
         }
-        Parsed::Refused(number, place) => {
-            if number != t.number {
-                return false;
-            }
-            if place != t.place {
-                return false;
-            }
-            are_zero(nodes, values, reports)
+        Err(refused) => {
+            refused.number() == t.number
+                && refused.place == t.place
+                && are_zero(nodes, values, reports)
         }
     }
 }
@@ -73,16 +55,7 @@ fn is_try_same(
     values: &mut [u32],
     reports: &mut [u32],
 ) -> bool {
-    let n = t.nodes;
-    let v = t.values;
-    let r = t.reports;
-    if nodes.len() < n {
-        return false;
-    }
-    if values.len() < v {
-        return false;
-    }
-    if reports.len() < r {
+    if nodes.len() < t.nodes || values.len() < t.values || reports.len() < t.reports {
         return false;
     }
     is_answered(
@@ -90,9 +63,9 @@ fn is_try_same(
         tree,
         t,
         tokens,
-        &mut nodes[..n],
-        &mut values[..v],
-        &mut reports[..r],
+        &mut nodes[..t.nodes],
+        &mut values[..t.values],
+        &mut reports[..t.reports],
     )
 }
 
@@ -108,10 +81,7 @@ fn are_tries_same(
     let mut at = tree.tries;
     let end = tree.next;
     // So that no sum wraps.
-    if LONGEST_DATA < end {
-        return false;
-    }
-    if end <= at {
+    if LONGEST_DATA < end || end <= at {
         return false;
     }
     while at < end {
@@ -134,67 +104,49 @@ fn is_tree_same(
     reports: &mut [u32],
 ) -> bool {
     match plank::lex(part(file, tree.text, tree.text_end), tokens) {
-        Lexed::Tokens(n) => {
+        Ok(n) => {
             if tokens.len() < n {
                 return false;
             }
             are_tries_same(file, tree, &tokens[..n], nodes, values, reports)
         }
-        Lexed::Refused(_, _) => false,
+        Err(_) => false,
     }
 }
 
-fn replay_tree(file: &[u8], at: usize) -> Turn {
+fn replay_tree(file: &[u8], at: usize) -> Option<Turn> {
     let mut tokens = [0u32; 2048];
     let mut nodes = [0u32; 8192];
     let mut values = [0u32; 2048];
     let mut reports = [0u32; 2048];
-    match tree_at(file, at) {
-        Found::At(tree) => {
-            if is_tree_same(
-                file,
-                tree,
-                &mut tokens,
-                &mut nodes,
-                &mut values,
-                &mut reports,
-            ) {
-                Turn::Same(tree.next)
-            } else {
-                Turn::Differs(tree.next)
-            }
-        }
-        Found::Cut => Turn::Cut,
-    }
-}
-
-// The records are counted from 1.
-fn replay(rt: &impl Print, file: &[u8], records: u32) -> io::Result<()> {
-    let mut n: u32 = 0;
-    let mut at = 4;
-    let mut differences: u32 = 0;
-    while n < records {
-        n += 1;
-        match replay_tree(file, at) {
-            Turn::Same(next) => {
-                at = next;
-            }
-            Turn::Differs(next) => {
-                print_differs(rt, n as usize)?;
-                differences += 1;
-                at = next;
-            }
-            Turn::Cut => return print_cut(rt, n as usize),
-        }
-    }
-    print_end(rt, file.len(), at, n as usize, differences as usize)
+    let tree = tree_at(file, at)?;
+    let is_same = is_tree_same(
+        file,
+        tree,
+        &mut tokens,
+        &mut nodes,
+        &mut values,
+        &mut reports,
+    );
+    Some(Turn {
+        is_same,
+        next: tree.next,
+    })
 }
 
 fn replay_all(rt: &impl Print, file: &[u8]) -> io::Result<()> {
     if file.len() < 4 {
-        return print_cut(rt, 0);
+        return println!(rt; "data cut at tree 0");
     }
-    replay(rt, file, number(file, 0))
+    let records = number(file, 0);
+    replay(
+        rt,
+        "tree",
+        "tree",
+        file.len(),
+        records,
+        |at| replay_tree(file, at),
+    )
 }
 
 pub(crate) fn replay_data(rt: &HostRuntime) -> io::Result<()> {

@@ -2,7 +2,7 @@
 use Rattle.std.specs.Prelude.{◌≡◌, refl, List, [], ◌∷◌, ◌++◌, ℕ, get_or}
 use Rattle.std.proofs.Common.{ap}
 use Rattle.words.specs.Token.{lex_error}
-use Rattle.words.specs.declared.token.LexError.TheVariants.{Nothing}
+use Rattle.std.specs.Prelude.{None}
 use Rattle.chart.specs.Row.{Lexeme, RowToken, token}
 use Rattle.chart.specs.Tree.{Trees}
 use Rattle.chart.specs.Chart
@@ -12,21 +12,21 @@ use Rattle.chart.proofs.Levels.{each}
 -- No token of a row is an error token.
 pub data NoErrors : List RowToken → Type 0 where
   no-errors : NoErrors []
-  no-error-more : {k : ℕ} {v : Lexeme} {xs : List RowToken} → lex_error k ≡ Nothing → NoErrors xs → NoErrors (token k v ∷ xs)
+  no-error-more : {k : ℕ} {v : Lexeme} {xs : List RowToken} → lex_error k ≡ None → NoErrors xs → NoErrors (token k v ∷ xs)
 
 -- From one row to what is left of it, no error token is passed.
 data Free : List RowToken → List RowToken → Type 0 where
   done : {xs : List RowToken} → Free xs xs
-  more : {k : ℕ} {v : Lexeme} {xs ys : List RowToken} → lex_error k ≡ Nothing → Free xs ys → Free (token k v ∷ xs) ys
+  more : {k : ℕ} {v : Lexeme} {xs ys : List RowToken} → lex_error k ≡ None → Free xs ys → Free (token k v ∷ xs) ys
 
 then : {xs ys zs : List RowToken} → Free xs ys → Free ys zs → Free xs zs
 then done q = q
 then (more e p) q = more e (then p q)
 
 -- No operator is an error token.
-clean : (k : ℕ) {o op : ℕ} → OneOf (get_or levels k []) o op → lex_error o ≡ Nothing
+clean : (k : ℕ) {o op : ℕ} → OneOf (get_or levels k []) o op → lex_error o ≡ None
 unfolding lex_error
-clean = each (λ k o op. lex_error o) (λ k o op. Nothing) levels refl
+clean = each (λ k o op. lex_error o) (λ k o op. None) levels refl
 
 free : {n : Nonterminal} {xs ys : List RowToken} {t : Trees} → Derives n xs ys t → Free xs ys
 unfolding lex_error

@@ -1,392 +1,135 @@
 // The parts of readers of parameters, members, arms and statements that call no reader.
 #![tactic(auto)]
 
-ghost use Rattle.definition.specs.Prog.{memory, again};
+ghost use Rattle.definition.specs.Prog.{again};
 ghost use Rattle.definition.specs.Expressions.{fallback_arm, any_type, parameter_name, members, no_member_turn};
 ghost use Rattle.definition.specs.Statements.{end_expr_turn};
 ghost use Rattle.reading.specs.Does.{Does};
 ghost use Rattle.answers.specs.Parts.{element, only_eat, only_check, emit_here, emit_before, note_field, separate, one_of, comptime_error, past_semicolon, ended_turn, stmt_result, error_from, comptime_parameter, plain_parameter, missing_semicolon};
 
-use answers::{Element, Ended, Listed, Stmt, StmtResult};
+use answers::{Ended, StmtResult};
 use cst::{alloc_last_token_as_node, close_node, open_from, open_here, push_child, update_kind};
 use definition::Unfinished;
 use names::{expect_ident, try_parse_ident};
-use reading::{Got, Maybe, Opened, Reading, Told, report};
+use reading::{Parser, report};
 use recovery::{expect_check_recovery, skip_until_recovery_token};
-use stream::{check, contains, eat, either, emit_unexpected, expect, pass, peek};
+use stream::{check, contains, eat, emit_unexpected, expect, pass, peek};
 use words::{flag, node, token};
 
 // A report on the cursor's token.
-fn emit_here(
-    d: u32,
-    s: Reading,
-    text: &[u8],
-    tokens: &[u32],
-    nodes: &mut [u32],
-    values: &mut [u32],
-    reports: &mut [u32],
-    kind: u32,
-) -> Reading
-    ensures { Does text.now tokens.now d (emit_here kind) s (memory nodes.old values.old reports.old) tt result (memory nodes.new values.new reports.new) }
+fn emit_here(p: &mut Parser, kind: u32)
+    ensures { Does (emit_here kind) p.old tt p.new }
 {
-    let state = s.state;
-    let cursor = state.cursor;
-    let i = cursor.at;
-    let start = stream::token_start(tokens, i);
-    let end = stream::token_end(tokens, i);
-    report::emit(
-        d, s, text, tokens, nodes, values, reports, kind, 0, start, end,
-    )
+    let i = p.state.cursor.at;
+    let start = stream::token_start(p.tokens, i);
+    let end = stream::token_end(p.tokens, i);
+    report::emit(p, kind, 0, start, end);
 }
 
 // A report on the token before the cursor.
-fn emit_before(
-    d: u32,
-    s: Reading,
-    text: &[u8],
-    tokens: &[u32],
-    nodes: &mut [u32],
-    values: &mut [u32],
-    reports: &mut [u32],
-    kind: u32,
-    detail: u32,
-) -> Reading
-    ensures { Does text.now tokens.now d (emit_before kind detail) s (memory nodes.old values.old reports.old) tt result (memory nodes.new values.new reports.new) }
+fn emit_before(p: &mut Parser, kind: u32, detail: u32)
+    ensures { Does (emit_before kind detail) p.old tt p.new }
 {
-    let state = s.state;
-    let cursor = state.cursor;
-    let i = cursor.at;
-    let start = stream::before_start(tokens, i);
-    let end = stream::token_start(tokens, i);
-    report::emit(
-        d, s, text, tokens, nodes, values, reports, kind, detail, start, end,
-    )
+    let i = p.state.cursor.at;
+    let start = stream::before_start(p.tokens, i);
+    let end = stream::token_start(p.tokens, i);
+    report::emit(p, kind, detail, start, end);
 }
 
 // Whether one of two tokens comes next; both are looked for.
-pub fn one_of(
-    d: u32,
-    s: Reading,
-    text: &[u8],
-    tokens: &[u32],
-    nodes: &mut [u32],
-    values: &mut [u32],
-    reports: &mut [u32],
-    first: u32,
-    second: u32,
-) -> Told
-    ensures { Does text.now tokens.now d (one_of first second) s (memory nodes.old values.old reports.old) result.is result.at (memory nodes.new values.new reports.new) }
+pub fn one_of(p: &mut Parser, first: u32, second: u32) -> bool
+    ensures { Does (one_of first second) p.old result p.new }
 {
-    let a = check(d, s, text, tokens, nodes, values, reports, first);
-    let b = check(d, a.at, text, tokens, nodes, values, reports, second);
-    let is = either(a.is, b.is);
-    let at = b.at;
-    Told { is, at }
+    let a = check(p, first);
+    let b = check(p, second);
+    a || b
 }
 
-pub fn fallback_arm(
-    d: u32,
-    s: Reading,
-    text: &[u8],
-    tokens: &[u32],
-    nodes: &mut [u32],
-    values: &mut [u32],
-    reports: &mut [u32],
-    start: u32,
-) -> Opened
-    ensures { Does text.now tokens.now d (fallback_arm start) s (memory nodes.old values.old reports.old) result.it result.at (memory nodes.new values.new reports.new) }
+pub fn fallback_arm(p: &mut Parser, start: u32) -> Unfinished
+    ensures { Does (fallback_arm start) p.old result p.new }
 {
-    let arm = open_from(
-        d,
-        s,
-        text,
-        tokens,
-        nodes,
-        values,
-        reports,
-        start,
+    let arm = open_from(p, start, node::MATCH_FALLBACK_ARM, 0);
+    let Some(name) = try_parse_ident(p) else {
+        return arm;
+    };
+    update_kind(
+        p,
+        arm,
         node::MATCH_FALLBACK_ARM,
-        0,
+        flag::MATCH_FALLBACK_ARM_BINDING,
     );
-    let binding = try_parse_ident(d, arm.at, text, tokens, nodes, values, reports);
-    let it = binding.it;
-    match it {
-        Maybe::None => {
-            let it = arm.it;
-            let at = binding.at;
-            Opened { it, at }
-        }
-        Maybe::Some(name) => {
-            let at = update_kind(
-                d,
-                binding.at,
-                text,
-                tokens,
-                nodes,
-                values,
-                reports,
-                arm.it,
-                node::MATCH_FALLBACK_ARM,
-                flag::MATCH_FALLBACK_ARM_BINDING,
-            );
-            push_child(d, at, text, tokens, nodes, values, reports, arm.it, name)
-        }
-    }
+    push_child(p, arm, name)
 }
 
 // A type that is `$` and a name.
-pub fn any_type(
-    d: u32,
-    s: Reading,
-    text: &[u8],
-    tokens: &[u32],
-    nodes: &mut [u32],
-    values: &mut [u32],
-    reports: &mut [u32],
-) -> Got
-    ensures { Does text.now tokens.now d any_type s (memory nodes.old values.old reports.old) result.it result.at (memory nodes.new values.new reports.new) }
+pub fn any_type(p: &mut Parser) -> u32
+    ensures { Does any_type p.old result p.new }
 {
-    let state = s.state;
-    let cursor = state.cursor;
-    let start = cursor.at;
-    let dollar = expect(d, s, text, tokens, nodes, values, reports, token::DOLLAR);
-    let named = expect(
-        d,
-        dollar.at,
-        text,
-        tokens,
-        nodes,
-        values,
-        reports,
-        token::IDENTIFIER,
-    );
-    if named.is {
-        let name = names::intern(named.at, text, tokens, token::IDENTIFIER);
-        let u = open_from(
-            d,
-            named.at,
-            text,
-            tokens,
-            nodes,
-            values,
-            reports,
-            start,
-            node::PARAM_ANY_TYPE,
-            name,
-        );
-        return close_node(d, u.at, text, tokens, nodes, values, reports, u.it);
+    let start = p.state.cursor.at;
+    expect(p, token::DOLLAR);
+    if !expect(p, token::IDENTIFIER) {
+        return error_from(p, start);
     }
-    error_from(d, named.at, text, tokens, nodes, values, reports, start)
+    let name = names::intern(p, token::IDENTIFIER);
+    let u = open_from(p, start, node::PARAM_ANY_TYPE, name);
+    close_node(p, u)
 }
 
-fn error_from(
-    d: u32,
-    s: Reading,
-    text: &[u8],
-    tokens: &[u32],
-    nodes: &mut [u32],
-    values: &mut [u32],
-    reports: &mut [u32],
-    start: u32,
-) -> Got
-    ensures { Does text.now tokens.now d (error_from start) s (memory nodes.old values.old reports.old) result.it result.at (memory nodes.new values.new reports.new) }
+fn error_from(p: &mut Parser, start: u32) -> u32
+    ensures { Does (error_from start) p.old result p.new }
 {
-    let u = open_from(
-        d,
-        s,
-        text,
-        tokens,
-        nodes,
-        values,
-        reports,
-        start,
-        node::ERROR,
-        0,
-    );
-    close_node(d, u.at, text, tokens, nodes, values, reports, u.it)
+    let u = open_from(p, start, node::ERROR, 0);
+    close_node(p, u)
 }
 
 // A parameter up to its name, where one begins.
-pub fn parameter_name(
-    d: u32,
-    s: Reading,
-    text: &[u8],
-    tokens: &[u32],
-    nodes: &mut [u32],
-    values: &mut [u32],
-    reports: &mut [u32],
-) -> Listed
-    ensures { Does text.now tokens.now d parameter_name s (memory nodes.old values.old reports.old) (element result.it) result.at (memory nodes.new values.new reports.new) }
+pub fn parameter_name(p: &mut Parser) -> Option<Unfinished>
+    ensures { Does parameter_name p.old (element result) p.new }
 {
-    let state = s.state;
-    let cursor = state.cursor;
-    let start = cursor.at;
-    let comptime = eat(d, s, text, tokens, nodes, values, reports, token::COMPTIME);
-    if comptime.is {
-        return comptime_parameter(d, comptime.at, text, tokens, nodes, values, reports, start);
+    let start = p.state.cursor.at;
+    if eat(p, token::COMPTIME) {
+        return comptime_parameter(p, start);
     }
-    let named = eat(
-        d,
-        comptime.at,
-        text,
-        tokens,
-        nodes,
-        values,
-        reports,
-        token::IDENTIFIER,
-    );
-    let at = named.at;
-    if named.is {
-        return plain_parameter(d, at, text, tokens, nodes, values, reports, start);
+    if eat(p, token::IDENTIFIER) {
+        return plain_parameter(p, start);
     }
-    Listed {
-        it: Element::Missing,
-        at,
-    }
+    None
 }
 
-fn comptime_parameter(
-    d: u32,
-    s: Reading,
-    text: &[u8],
-    tokens: &[u32],
-    nodes: &mut [u32],
-    values: &mut [u32],
-    reports: &mut [u32],
-    start: u32,
-) -> Listed
-    ensures { Does text.now tokens.now d (comptime_parameter start) s (memory nodes.old values.old reports.old) (element result.it) result.at (memory nodes.new values.new reports.new) }
+fn comptime_parameter(p: &mut Parser, start: u32) -> Option<Unfinished>
+    ensures { Does (comptime_parameter start) p.old (element result) p.new }
 {
-    let u = open_from(
-        d,
-        s,
-        text,
-        tokens,
-        nodes,
-        values,
-        reports,
-        start,
-        node::COMPTIME_PARAMETER,
-        0,
-    );
-    let name = expect_ident(d, u.at, text, tokens, nodes, values, reports);
-    let u = push_child(
-        d, name.at, text, tokens, nodes, values, reports, u.it, name.it,
-    );
-    let at = u.at;
-    let it = u.it;
-    Listed {
-        it: Element::More(it),
-        at,
-    }
+    let u = open_from(p, start, node::COMPTIME_PARAMETER, 0);
+    let name = expect_ident(p);
+    Some(push_child(p, u, name))
 }
 
 // The name's token was passed.
-fn plain_parameter(
-    d: u32,
-    s: Reading,
-    text: &[u8],
-    tokens: &[u32],
-    nodes: &mut [u32],
-    values: &mut [u32],
-    reports: &mut [u32],
-    start: u32,
-) -> Listed
-    ensures { Does text.now tokens.now d (plain_parameter start) s (memory nodes.old values.old reports.old) (element result.it) result.at (memory nodes.new values.new reports.new) }
+fn plain_parameter(p: &mut Parser, start: u32) -> Option<Unfinished>
+    ensures { Does (plain_parameter start) p.old (element result) p.new }
 {
-    let u = open_from(
-        d,
-        s,
-        text,
-        tokens,
-        nodes,
-        values,
-        reports,
-        start,
-        node::PARAMETER,
-        0,
-    );
-    let ident = names::intern(u.at, text, tokens, token::IDENTIFIER);
-    let name = alloc_last_token_as_node(
-        d,
-        u.at,
-        text,
-        tokens,
-        nodes,
-        values,
-        reports,
-        node::IDENTIFIER,
-        ident,
-    );
-    let u = push_child(
-        d, name.at, text, tokens, nodes, values, reports, u.it, name.it,
-    );
-    let at = u.at;
-    let it = u.it;
-    Listed {
-        it: Element::More(it),
-        at,
-    }
+    let u = open_from(p, start, node::PARAMETER, 0);
+    let ident = names::intern(p, token::IDENTIFIER);
+    let name = alloc_last_token_as_node(p, node::IDENTIFIER, ident);
+    Some(push_child(p, u, name))
 }
 
 // Where a field comes after a method.
-pub fn note_field(
-    d: u32,
-    s: Reading,
-    text: &[u8],
-    tokens: &[u32],
-    nodes: &mut [u32],
-    values: &mut [u32],
-    reports: &mut [u32],
-    seen: bool,
-) -> Reading
-    ensures { Does text.now tokens.now d (note_field seen) s (memory nodes.old values.old reports.old) tt result (memory nodes.new values.new reports.new) }
+pub fn note_field(p: &mut Parser, seen: bool)
+    ensures { Does (note_field seen) p.old tt p.new }
 {
-    if !seen {
-        return s;
+    if seen {
+        emit_here(p, words::report::FIELD_AFTER_METHOD);
     }
-    emit_here(
-        d,
-        s,
-        text,
-        tokens,
-        nodes,
-        values,
-        reports,
-        words::report::FIELD_AFTER_METHOD,
-    )
 }
 
 // After a field.
-pub fn separate(
-    d: u32,
-    s: Reading,
-    text: &[u8],
-    tokens: &[u32],
-    nodes: &mut [u32],
-    values: &mut [u32],
-    reports: &mut [u32],
-    body: Unfinished,
-    seen: bool,
-) -> Reading
-    ensures { Does text.now tokens.now d (separate (members body seen)) s (memory nodes.old values.old reports.old) (again (members body seen)) result (memory nodes.new values.new reports.new) }
+pub fn separate(p: &mut Parser, body: Unfinished, seen: bool)
+    ensures { Does (separate (members body seen)) p.old (again (members body seen)) p.new }
 {
-    let next = peek(d, s, text, tokens, nodes, values, reports);
-    if contains(&AFTER_FIELD, next.it) {
-        return next.at;
+    if !contains(&AFTER_FIELD, peek(p)) {
+        expect_check_recovery(p, token::COMMA, &FIELD_RECOVERY);
     }
-    let comma = expect_check_recovery(
-        d,
-        next.at,
-        text,
-        tokens,
-        nodes,
-        values,
-        reports,
-        token::COMMA,
-        &FIELD_RECOVERY,
-    );
-    comma.at
 }
 
 const AFTER_FIELD: [u32; 4] = [token::RIGHT_CURLY, token::EOF, token::EAGER, token::FN];
@@ -401,82 +144,27 @@ const MEMBER_RECOVERY: [u32; 4] = [
 ];
 
 // What begins no member.
-pub fn no_member(
-    d: u32,
-    s: Reading,
-    text: &[u8],
-    tokens: &[u32],
-    nodes: &mut [u32],
-    values: &mut [u32],
-    reports: &mut [u32],
-    body: Unfinished,
-    seen: bool,
-) -> Opened
-    ensures { Does text.now tokens.now d (no_member_turn (members body seen)) s (memory nodes.old values.old reports.old) (again (members result.it seen)) result.at (memory nodes.new values.new reports.new) }
+pub fn no_member(p: &mut Parser, body: Unfinished, seen: bool) -> Unfinished
+    ensures { Does (no_member_turn (members body seen)) p.old (again (members result seen)) p.new }
 {
-    let told = emit_unexpected(d, s, text, tokens, nodes, values, reports);
-    let u = open_here(
-        d,
-        told,
-        text,
-        tokens,
-        nodes,
-        values,
-        reports,
-        node::ERROR,
-        0,
-    );
-    let past = pass(d, u.at, text, tokens, nodes, values, reports);
-    let at = skip_until_recovery_token(
-        d,
-        past,
-        text,
-        tokens,
-        nodes,
-        values,
-        reports,
-        &MEMBER_RECOVERY,
-    );
-    let n = close_node(d, at, text, tokens, nodes, values, reports, u.it);
-    push_child(d, n.at, text, tokens, nodes, values, reports, body, n.it)
+    emit_unexpected(p);
+    let u = open_here(p, node::ERROR, 0);
+    pass(p);
+    skip_until_recovery_token(p, &MEMBER_RECOVERY);
+    let n = close_node(p, u);
+    push_child(p, body, n)
 }
 
-pub fn eat_if(
-    d: u32,
-    s: Reading,
-    text: &[u8],
-    tokens: &[u32],
-    nodes: &mut [u32],
-    values: &mut [u32],
-    reports: &mut [u32],
-    tried: bool,
-    token: u32,
-) -> Told
-    ensures { Does text.now tokens.now d (only_eat tried token) s (memory nodes.old values.old reports.old) result.is result.at (memory nodes.new values.new reports.new) }
+pub fn eat_if(p: &mut Parser, tried: bool, token: u32) -> bool
+    ensures { Does (only_eat tried token) p.old result p.new }
 {
-    if tried {
-        return eat(d, s, text, tokens, nodes, values, reports, token);
-    }
-    Told { is: tried, at: s }
+    tried && eat(p, token)
 }
 
-pub fn check_if(
-    d: u32,
-    s: Reading,
-    text: &[u8],
-    tokens: &[u32],
-    nodes: &mut [u32],
-    values: &mut [u32],
-    reports: &mut [u32],
-    tried: bool,
-    token: u32,
-) -> Told
-    ensures { Does text.now tokens.now d (only_check tried token) s (memory nodes.old values.old reports.old) result.is result.at (memory nodes.new values.new reports.new) }
+pub fn check_if(p: &mut Parser, tried: bool, token: u32) -> bool
+    ensures { Does (only_check tried token) p.old result p.new }
 {
-    if tried {
-        return check(d, s, text, tokens, nodes, values, reports, token);
-    }
-    Told { is: tried, at: s }
+    tried && check(p, token)
 }
 
 const STMT_RECOVERY: [u32; 15] = [
@@ -498,133 +186,44 @@ const STMT_RECOVERY: [u32; 15] = [
 ];
 
 // After `comptime`, where neither a block nor a `let` follows.
-pub fn comptime_error(
-    d: u32,
-    s: Reading,
-    text: &[u8],
-    tokens: &[u32],
-    nodes: &mut [u32],
-    values: &mut [u32],
-    reports: &mut [u32],
-    start: u32,
-) -> Stmt
-    ensures { Does text.now tokens.now d (comptime_error start) s (memory nodes.old values.old reports.old) (stmt_result result.it) result.at (memory nodes.new values.new reports.new) }
+pub fn comptime_error(p: &mut Parser, start: u32) -> Option<StmtResult>
+    ensures { Does (comptime_error start) p.old (stmt_result result) p.new }
 {
-    let told = emit_unexpected(d, s, text, tokens, nodes, values, reports);
-    let at = skip_until_recovery_token(
-        d,
-        told,
-        text,
-        tokens,
-        nodes,
-        values,
-        reports,
-        &STMT_RECOVERY,
-    );
-    let semi = past_semicolon(d, at, text, tokens, nodes, values, reports);
-    let u = open_from(
-        d,
-        semi,
-        text,
-        tokens,
-        nodes,
-        values,
-        reports,
-        start,
-        node::ERROR,
-        0,
-    );
-    let n = close_node(d, u.at, text, tokens, nodes, values, reports, u.it);
-    let at = n.at;
-    Stmt {
-        it: StmtResult::Statement(n.it),
-        at,
+    emit_unexpected(p);
+    skip_until_recovery_token(p, &STMT_RECOVERY);
+    past_semicolon(p);
+    let u = open_from(p, start, node::ERROR, 0);
+    Some(StmtResult::Statement(close_node(p, u)))
+}
+
+fn past_semicolon(p: &mut Parser)
+    ensures { Does past_semicolon p.old tt p.new }
+{
+    if peek(p) == token::SEMICOLON {
+        pass(p);
     }
 }
 
-fn past_semicolon(
-    d: u32,
-    s: Reading,
-    text: &[u8],
-    tokens: &[u32],
-    nodes: &mut [u32],
-    values: &mut [u32],
-    reports: &mut [u32],
-) -> Reading
-    ensures { Does text.now tokens.now d past_semicolon s (memory nodes.old values.old reports.old) tt result (memory nodes.new values.new reports.new) }
+pub fn end_expr(p: &mut Parser, list: Unfinished, n: u32) -> Ended
+    ensures { Does (end_expr_turn list n) p.old (ended_turn result) p.new }
 {
-    let next = peek(d, s, text, tokens, nodes, values, reports);
-    if next.it == token::SEMICOLON {
-        return pass(d, next.at, text, tokens, nodes, values, reports);
-    }
-    next.at
-}
-
-pub fn end_expr(
-    d: u32,
-    s: Reading,
-    text: &[u8],
-    tokens: &[u32],
-    nodes: &mut [u32],
-    values: &mut [u32],
-    reports: &mut [u32],
-    list: Unfinished,
-    n: u32,
-) -> Ended
-    ensures { Does text.now tokens.now d (end_expr_turn list n) s (memory nodes.old values.old reports.old) (ended_turn result) result.at (memory nodes.new values.new reports.new) }
-{
-    let end = one_of(
-        d,
-        s,
-        text,
-        tokens,
-        nodes,
-        values,
-        reports,
-        token::RIGHT_CURLY,
-        token::EOF,
-    );
-    if end.is {
-        let at = end.at;
+    if one_of(p, token::RIGHT_CURLY, token::EOF) {
         return Ended {
             list,
-            closing: Maybe::Some(n),
+            closing: Some(n),
             last: true,
-            at,
         };
     }
-    let told = missing_semicolon(d, end.at, text, tokens, nodes, values, reports);
-    let more = push_child(d, told, text, tokens, nodes, values, reports, list, n);
-    let list = more.it;
-    let at = more.at;
+    missing_semicolon(p);
     Ended {
-        list,
-        closing: Maybe::None,
+        list: push_child(p, list, n),
+        closing: None,
         last: false,
-        at,
     }
 }
 
-fn missing_semicolon(
-    d: u32,
-    s: Reading,
-    text: &[u8],
-    tokens: &[u32],
-    nodes: &mut [u32],
-    values: &mut [u32],
-    reports: &mut [u32],
-) -> Reading
-    ensures { Does text.now tokens.now d missing_semicolon s (memory nodes.old values.old reports.old) tt result (memory nodes.new values.new reports.new) }
+fn missing_semicolon(p: &mut Parser)
+    ensures { Does missing_semicolon p.old tt p.new }
 {
-    emit_before(
-        d,
-        s,
-        text,
-        tokens,
-        nodes,
-        values,
-        reports,
-        words::report::MISSING_SPECIFIC,
-        token::SEMICOLON,
-    )
+    emit_before(p, words::report::MISSING_SPECIFIC, token::SEMICOLON);
 }

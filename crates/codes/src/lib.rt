@@ -3,10 +3,10 @@
 
 ghost use Rattle.std.specs.Prelude.{◌≡◌, [], ◌∷◌};
 ghost use Rattle.words.specs.Answer.{done, refused};
-ghost use Rattle.looking.specs.View.{is, answer, counts, spans};
+ghost use Rattle.looking.specs.View.{is, answer};
 ghost use Rattle.codes.specs.Coded.{coded, counted, viewed, spanned, bounds};
 
-use looking::{Count, Spanned, TokenSpan, View};
+use looking::{Seen, TokenSpan};
 
 // A refusal as one number: its number times 2 to the 32nd, and its place. No refusal has number 0, so it is above every count of 32 bits.
 pub fn refusal_code(number: u32, place: u32) -> u64
@@ -32,24 +32,26 @@ pub fn put_counts(counts: &mut [u64], tokens: usize, nodes: u32, values: usize, 
 const NOTHING: u64 = 9223372036854775808;
 
 // What a view tells, as one number: the number itself, none, or a refusal.
-pub fn view_code(seen: View) -> u64
+fn seen_code(seen: Seen<u64>) -> u64
     ensures { result ≡ viewed (answer seen) }
 {
     match seen {
-        View::Is(n) => n as u64,
-        View::None => NOTHING,
-        View::Refused(place) => refusal_code(words::refusal::ALTERED_NODES, place),
+        Ok(seen) => seen.unwrap_or(NOTHING),
+        Err(altered) => refusal_code(words::Refusal::AlteredNodes as u32, altered.node),
     }
 }
 
-pub fn view_count_code(seen: Count) -> u64
-    ensures { result ≡ viewed (counts seen) }
+// A number and a count: two functions, as `u64` is no `From<usize>`.
+pub fn view_code(seen: Seen<u32>) -> u64
+    ensures { result ≡ viewed (answer seen) }
 {
-    match seen {
-        Count::Is(n) => n as u64,
-        Count::None => NOTHING,
-        Count::Refused(place) => refusal_code(words::refusal::ALTERED_NODES, place),
-    }
+    seen_code(seen.map(|seen| seen.map(u64::from)))
+}
+
+pub fn view_count_code(seen: Seen<usize>) -> u64
+    ensures { result ≡ viewed (answer seen) }
+{
+    seen_code(seen.map(|seen| seen.map(|n| n as u64)))
 }
 
 // The first token and the one past the last, where two words are lent for them.
@@ -64,15 +66,11 @@ fn put_span(lent: &mut [u32], span: TokenSpan)
 }
 
 // What a view of tokens tells: 0, and the tokens in `lent`, none, or a refusal.
-pub fn view_span_code(seen: Spanned, lent: &mut [u32]) -> u64
-    ensures { (result ≡ spanned (spans seen)) × (lent.new ≡ bounds (spans seen) lent.old) }
+pub fn view_span_code(seen: Seen<TokenSpan>, lent: &mut [u32]) -> u64
+    ensures { (result ≡ spanned (answer seen)) × (lent.new ≡ bounds (answer seen) lent.old) }
 {
-    match seen {
-        Spanned::Is(span) => {
-            put_span(lent, span);
-            0
-        }
-        Spanned::None => NOTHING,
-        Spanned::Refused(place) => refusal_code(words::refusal::ALTERED_NODES, place),
+    if let Ok(Some(span)) = seen {
+        put_span(lent, span);
     }
+    seen_code(seen.map(|seen| seen.map(|_| 0)))
 }

@@ -1,10 +1,8 @@
 -- What the contracts say beside the definition's programs.
-use Rattle.std.proofs.Math.Option.{Option, none, some}
-use Rattle.std.specs.Prelude.{ℕ}
-use Rattle.reading.specs.declared.Maybe.{Maybe}
-use Rattle.reading.specs.declared.Maybe.TheVariants.{Some, None}
+use Rattle.std.proofs.Math.Option as Math
+use Rattle.std.specs.Prelude.{ℕ, Option, Some, None}
 
 -- What may be missing, as the definition has it.
-abbrev pub maybe : Maybe → Option ℕ
-maybe (Some n) = some n
-maybe None = none
+abbrev pub maybe : Option ℕ → Math.Option ℕ
+maybe (Some n) = Math.some n
+maybe None = Math.none

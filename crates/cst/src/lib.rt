@@ -2,7 +2,6 @@
 #![tactic(auto)]
 
 ghost use Rattle.std.specs.Prelude.{◌≡◌, pred};
-ghost use Rattle.definition.specs.Prog.{memory};
 ghost use Rattle.definition.specs.Nodes.{alloc_node_from, alloc_node, close_node_at, close_node, update_kind, push_child, alloc_last_token_as_node, error_node};
 ghost use Rattle.definition.specs.Expressions.{push_option, push_closing};
 ghost use Rattle.reading.specs.Does.{Does};
@@ -10,228 +9,91 @@ ghost use Rattle.cst.specs.Cst.{maybe};
 
 use definition::Unfinished;
 use nodes::{alloc, close_at, close_at_start, link, set_kind};
-use reading::{Got, Maybe, Opened, Reading};
+use reading::Parser;
 
 // `alloc_node_from`
-pub fn open_from(
-    d: u32,
-    s: Reading,
-    text: &[u8],
-    tokens: &[u32],
-    nodes: &mut [u32],
-    values: &mut [u32],
-    reports: &mut [u32],
-    start: u32,
-    kind: u32,
-    payload: u32,
-) -> Opened
-    ensures { Does text.now tokens.now d (alloc_node_from start kind payload) s (memory nodes.old values.old reports.old) result.it result.at (memory nodes.new values.new reports.new) }
+pub fn open_from(p: &mut Parser, start: u32, kind: u32, payload: u32) -> Unfinished
+    ensures { Does (alloc_node_from start kind payload) p.old result p.new }
 {
-    let made = alloc(
-        d, s, text, tokens, nodes, values, reports, start, kind, payload,
-    );
-    let it = Unfinished {
-        node: made.it,
+    Unfinished {
+        node: alloc(p, start, kind, payload),
         last: 0,
-    };
-    let at = made.at;
-    Opened { it, at }
+    }
 }
 
 // `alloc_node`
-pub fn open_here(
-    d: u32,
-    s: Reading,
-    text: &[u8],
-    tokens: &[u32],
-    nodes: &mut [u32],
-    values: &mut [u32],
-    reports: &mut [u32],
-    kind: u32,
-    payload: u32,
-) -> Opened
-    ensures { Does text.now tokens.now d (alloc_node kind payload) s (memory nodes.old values.old reports.old) result.it result.at (memory nodes.new values.new reports.new) }
+pub fn open_here(p: &mut Parser, kind: u32, payload: u32) -> Unfinished
+    ensures { Does (alloc_node kind payload) p.old result p.new }
 {
-    let state = s.state;
-    let cursor = state.cursor;
-    open_from(
-        d, s, text, tokens, nodes, values, reports, cursor.at, kind, payload,
-    )
+    let start = p.state.cursor.at;
+    open_from(p, start, kind, payload)
 }
 
-pub fn close_node_at(
-    d: u32,
-    s: Reading,
-    text: &[u8],
-    tokens: &[u32],
-    nodes: &mut [u32],
-    values: &mut [u32],
-    reports: &mut [u32],
-    u: Unfinished,
-    end: u32,
-) -> Got
-    ensures { Does text.now tokens.now d (close_node_at u end) s (memory nodes.old values.old reports.old) result.it result.at (memory nodes.new values.new reports.new) }
+pub fn close_node_at(p: &mut Parser, u: Unfinished, end: u32) -> u32
+    ensures { Does (close_node_at u end) p.old result p.new }
 {
-    let at = close_at(d, s, text, tokens, nodes, values, reports, u.node, end);
-    Got { it: u.node, at }
+    close_at(p, u.node, end);
+    u.node
 }
 
-pub fn close_node(
-    d: u32,
-    s: Reading,
-    text: &[u8],
-    tokens: &[u32],
-    nodes: &mut [u32],
-    values: &mut [u32],
-    reports: &mut [u32],
-    u: Unfinished,
-) -> Got
-    ensures { Does text.now tokens.now d (close_node u) s (memory nodes.old values.old reports.old) result.it result.at (memory nodes.new values.new reports.new) }
+pub fn close_node(p: &mut Parser, u: Unfinished) -> u32
+    ensures { Does (close_node u) p.old result p.new }
 {
-    let state = s.state;
-    let cursor = state.cursor;
-    close_node_at(d, s, text, tokens, nodes, values, reports, u, cursor.at)
+    let end = p.state.cursor.at;
+    close_node_at(p, u, end)
 }
 
-pub fn update_kind(
-    d: u32,
-    s: Reading,
-    text: &[u8],
-    tokens: &[u32],
-    nodes: &mut [u32],
-    values: &mut [u32],
-    reports: &mut [u32],
-    u: Unfinished,
-    kind: u32,
-    payload: u32,
-) -> Reading
-    ensures { Does text.now tokens.now d (update_kind u kind payload) s (memory nodes.old values.old reports.old) tt result (memory nodes.new values.new reports.new) }
+pub fn update_kind(p: &mut Parser, u: Unfinished, kind: u32, payload: u32)
+    ensures { Does (update_kind u kind payload) p.old tt p.new }
 {
-    set_kind(
-        d, s, text, tokens, nodes, values, reports, u.node, kind, payload,
-    )
+    set_kind(p, u.node, kind, payload);
 }
 
-pub fn push_child(
-    d: u32,
-    s: Reading,
-    text: &[u8],
-    tokens: &[u32],
-    nodes: &mut [u32],
-    values: &mut [u32],
-    reports: &mut [u32],
-    parent: Unfinished,
-    child: u32,
-) -> Opened
-    ensures { Does text.now tokens.now d (push_child parent child) s (memory nodes.old values.old reports.old) result.it result.at (memory nodes.new values.new reports.new) }
+pub fn push_child(p: &mut Parser, parent: Unfinished, child: u32) -> Unfinished
+    ensures { Does (push_child parent child) p.old result p.new }
 {
-    let at = link(
-        d,
-        s,
-        text,
-        tokens,
-        nodes,
-        values,
-        reports,
-        parent.node,
-        parent.last,
-        child,
-    );
-    let it = Unfinished {
+    link(p, parent.node, parent.last, child);
+    Unfinished {
         node: parent.node,
         last: child,
-    };
-    Opened { it, at }
+    }
 }
 
-pub fn alloc_last_token_as_node(
-    d: u32,
-    s: Reading,
-    text: &[u8],
-    tokens: &[u32],
-    nodes: &mut [u32],
-    values: &mut [u32],
-    reports: &mut [u32],
-    kind: u32,
-    payload: u32,
-) -> Got
-    ensures { Does text.now tokens.now d (alloc_last_token_as_node kind payload) s (memory nodes.old values.old reports.old) result.it result.at (memory nodes.new values.new reports.new) }
+pub fn alloc_last_token_as_node(p: &mut Parser, kind: u32, payload: u32) -> u32
+    ensures { Does (alloc_last_token_as_node kind payload) p.old result p.new }
 {
-    let state = s.state;
-    let cursor = state.cursor;
-    let start = previous(cursor.at);
-    let made = open_from(
-        d, s, text, tokens, nodes, values, reports, start, kind, payload,
-    );
-    close_node(d, made.at, text, tokens, nodes, values, reports, made.it)
+    let start = previous(p.state.cursor.at);
+    let made = open_from(p, start, kind, payload);
+    close_node(p, made)
 }
 
 // The node of what is missing.
-pub fn error_node(
-    d: u32,
-    s: Reading,
-    text: &[u8],
-    tokens: &[u32],
-    nodes: &mut [u32],
-    values: &mut [u32],
-    reports: &mut [u32],
-) -> Got
-    ensures { Does text.now tokens.now d error_node s (memory nodes.old values.old reports.old) result.it result.at (memory nodes.new values.new reports.new) }
+pub fn error_node(p: &mut Parser) -> u32
+    ensures { Does error_node p.old result p.new }
 {
-    let made = open_here(
-        d,
-        s,
-        text,
-        tokens,
-        nodes,
-        values,
-        reports,
-        words::node::ERROR,
-        0,
-    );
-    close_node(d, made.at, text, tokens, nodes, values, reports, made.it)
+    let made = open_here(p, words::node::ERROR, 0);
+    close_node(p, made)
 }
 
 // A child where there is one.
-pub fn push_option(
-    d: u32,
-    s: Reading,
-    text: &[u8],
-    tokens: &[u32],
-    nodes: &mut [u32],
-    values: &mut [u32],
-    reports: &mut [u32],
-    parent: Unfinished,
-    child: Maybe,
-) -> Opened
-    ensures { Does text.now tokens.now d (push_option parent (maybe child)) s (memory nodes.old values.old reports.old) result.it result.at (memory nodes.new values.new reports.new) }
+pub fn push_option(p: &mut Parser, parent: Unfinished, child: Option<u32>) -> Unfinished
+    ensures { Does (push_option parent (maybe child)) p.old result p.new }
 {
     match child {
-        Maybe::None => Opened { it: parent, at: s },
-        Maybe::Some(n) => push_child(d, s, text, tokens, nodes, values, reports, parent, n),
+        None => parent,
+        Some(n) => push_child(p, parent, n),
     }
 }
 
 // What closes a node after a list: where it starts, the list ends.
-pub fn push_closing(
-    d: u32,
-    s: Reading,
-    text: &[u8],
-    tokens: &[u32],
-    nodes: &mut [u32],
-    values: &mut [u32],
-    reports: &mut [u32],
-    parent: Unfinished,
-    list: u32,
-    child: Maybe,
-) -> Opened
-    ensures { Does text.now tokens.now d (push_closing parent list (maybe child)) s (memory nodes.old values.old reports.old) result.it result.at (memory nodes.new values.new reports.new) }
+pub fn push_closing(p: &mut Parser, parent: Unfinished, list: u32, child: Option<u32>) -> Unfinished
+    ensures { Does (push_closing parent list (maybe child)) p.old result p.new }
 {
     match child {
-        Maybe::None => Opened { it: parent, at: s },
-        Maybe::Some(n) => {
-            let at = close_at_start(d, s, text, tokens, nodes, values, reports, list, n);
-            push_child(d, at, text, tokens, nodes, values, reports, parent, n)
+        None => parent,
+        Some(n) => {
+            close_at_start(p, list, n);
+            push_child(p, parent, n)
         }
     }
 }

@@ -1,7 +1,7 @@
 // Constants, declarations and the file: parser/mod.rs, section "TOP-LEVEL DECLARATIONS".
 #![tactic(auto)]
 
-ghost use Rattle.definition.specs.Prog.{Loop, memory};
+ghost use Rattle.definition.specs.Prog.{Loop};
 ghost use Rattle.definition.specs.Tokens.{skip_until_decl_start};
 ghost use Rattle.definition.specs.Declarations.{parse_const_decl, no_decl, parse_decl, decl_turn, parse_file};
 ghost use Rattle.reading.specs.Does.{Does};
@@ -11,7 +11,7 @@ use cst::{close_node, open_from, open_here, push_child, update_kind};
 use definition::{Mode, Unfinished};
 use imports::parse_import_decl;
 use names::expect_ident;
-use reading::{Got, Opened, Reading};
+use reading::Parser;
 use recovery::{expect_check_recovery, skip_until_recovery_token};
 use stream::{eat, emit_unexpected, eof, pass, turns_of};
 use words::{flag, node, token};
@@ -25,343 +25,116 @@ const CONST_DEF_EXPR_RECOVERY: [u32; 5] = [
     token::USE,
 ];
 
-fn open_const(
-    d: u32,
-    s: Reading,
-    text: &[u8],
-    tokens: &[u32],
-    nodes: &mut [u32],
-    values: &mut [u32],
-    reports: &mut [u32],
-    start: u32,
-) -> Opened
-    ensures { Does text.now tokens.now d (open_const start) s (memory nodes.old values.old reports.old) result.it result.at (memory nodes.new values.new reports.new) }
+fn open_const(p: &mut Parser, start: u32) -> Unfinished
+    ensures { Does (open_const start) p.old result p.new }
 {
-    let u = open_from(
-        d,
-        s,
-        text,
-        tokens,
-        nodes,
-        values,
-        reports,
-        start,
-        node::CONST_DECL,
-        0,
-    );
-    let name = expect_ident(d, u.at, text, tokens, nodes, values, reports);
-    push_child(
-        d, name.at, text, tokens, nodes, values, reports, u.it, name.it,
-    )
+    let u = open_from(p, start, node::CONST_DECL, 0);
+    let name = expect_ident(p);
+    push_child(p, u, name)
 }
 
 // The type of a constant, where a colon follows its name.
-fn const_type(
-    d: u32,
-    s: Reading,
-    text: &[u8],
-    tokens: &[u32],
-    nodes: &mut [u32],
-    values: &mut [u32],
-    reports: &mut [u32],
-    u: Unfinished,
-) -> Opened
-    ensures { Does text.now tokens.now d (const_type u) s (memory nodes.old values.old reports.old) result.it result.at (memory nodes.new values.new reports.new) }
+fn const_type(p: &mut Parser, u: Unfinished) -> Unfinished
+    ensures { Does (const_type u) p.old result p.new }
 {
-    let colon = eat(d, s, text, tokens, nodes, values, reports, token::COLON);
-    let at = colon.at;
-    if !colon.is {
-        return Opened { it: u, at };
+    if !eat(p, token::COLON) {
+        return u;
     }
-    let at = update_kind(
-        d,
-        at,
-        text,
-        tokens,
-        nodes,
-        values,
-        reports,
-        u,
-        node::CONST_DECL,
-        flag::CONST_DECL_TYPED,
-    );
-    let kind = readers::must(d, at, text, tokens, nodes, values, reports, Mode::AllowAll);
-    push_child(d, kind.at, text, tokens, nodes, values, reports, u, kind.it)
+    update_kind(p, u, node::CONST_DECL, flag::CONST_DECL_TYPED);
+    let kind = readers::must(p, Mode::AllowAll);
+    push_child(p, u, kind)
 }
 
-fn end_const(
-    d: u32,
-    s: Reading,
-    text: &[u8],
-    tokens: &[u32],
-    nodes: &mut [u32],
-    values: &mut [u32],
-    reports: &mut [u32],
-    u: Unfinished,
-    value: u32,
-) -> Got
-    ensures { Does text.now tokens.now d (end_const u value) s (memory nodes.old values.old reports.old) result.it result.at (memory nodes.new values.new reports.new) }
+fn end_const(p: &mut Parser, u: Unfinished, value: u32) -> u32
+    ensures { Does (end_const u value) p.old result p.new }
 {
-    let u = push_child(d, s, text, tokens, nodes, values, reports, u, value);
-    let semi = expect_check_recovery(
-        d,
-        u.at,
-        text,
-        tokens,
-        nodes,
-        values,
-        reports,
-        token::SEMICOLON,
-        &CONST_DEF_EXPR_RECOVERY,
-    );
-    close_node(d, semi.at, text, tokens, nodes, values, reports, u.it)
+    let u = push_child(p, u, value);
+    expect_check_recovery(p, token::SEMICOLON, &CONST_DEF_EXPR_RECOVERY);
+    close_node(p, u)
 }
 
-fn parse_const_decl(
-    d: u32,
-    s: Reading,
-    text: &[u8],
-    tokens: &[u32],
-    nodes: &mut [u32],
-    values: &mut [u32],
-    reports: &mut [u32],
-    start: u32,
-) -> Got
-    ensures { Does text.now tokens.now d (parse_const_decl start) s (memory nodes.old values.old reports.old) result.it result.at (memory nodes.new values.new reports.new) }
+fn parse_const_decl(p: &mut Parser, start: u32) -> u32
+    ensures { Does (parse_const_decl start) p.old result p.new }
 {
-    let u = open_const(d, s, text, tokens, nodes, values, reports, start);
-    let u = const_type(d, u.at, text, tokens, nodes, values, reports, u.it);
-    let equals = expect_check_recovery(
-        d,
-        u.at,
-        text,
-        tokens,
-        nodes,
-        values,
-        reports,
-        token::EQUALS,
-        &CONST_DEF_EXPR_RECOVERY,
-    );
-    let value = readers::must(
-        d,
-        equals.at,
-        text,
-        tokens,
-        nodes,
-        values,
-        reports,
-        Mode::AllowAll,
-    );
-    end_const(
-        d, value.at, text, tokens, nodes, values, reports, u.it, value.it,
-    )
+    let u = open_const(p, start);
+    let u = const_type(p, u);
+    expect_check_recovery(p, token::EQUALS, &CONST_DEF_EXPR_RECOVERY);
+    let value = readers::must(p, Mode::AllowAll);
+    end_const(p, u, value)
 }
 
 // `skip_until_decl_start`, where the text may end before it.
-fn skip(
-    d: u32,
-    s: Reading,
-    text: &[u8],
-    tokens: &[u32],
-    nodes: &mut [u32],
-    values: &mut [u32],
-    reports: &mut [u32],
-    public: bool,
-) -> Reading
-    ensures { Does text.now tokens.now d (skipping public) s (memory nodes.old values.old reports.old) tt result (memory nodes.new values.new reports.new) }
+fn skip(p: &mut Parser, public: bool)
+    ensures { Does (skipping public) p.old tt p.new }
 {
-    if public {
-        let end = eof(d, s, text, tokens, nodes, values, reports);
-        if end.is {
-            return end.at;
-        }
-        return skip_until_decl_start(d, end.at, text, tokens, nodes, values, reports);
+    if public && eof(p) {
+        return;
     }
-    skip_until_decl_start(d, s, text, tokens, nodes, values, reports)
+    skip_until_decl_start(p);
 }
 
-fn skip_until_decl_start(
-    d: u32,
-    s: Reading,
-    text: &[u8],
-    tokens: &[u32],
-    nodes: &mut [u32],
-    values: &mut [u32],
-    reports: &mut [u32],
-) -> Reading
-    ensures { Does text.now tokens.now d skip_until_decl_start s (memory nodes.old values.old reports.old) tt result (memory nodes.new values.new reports.new) }
+fn skip_until_decl_start(p: &mut Parser)
+    ensures { Does skip_until_decl_start p.old tt p.new }
 {
-    let past = pass(d, s, text, tokens, nodes, values, reports);
-    skip_until_recovery_token(
-        d,
-        past,
-        text,
-        tokens,
-        nodes,
-        values,
-        reports,
-        &CONST_DEF_EXPR_RECOVERY,
-    )
+    pass(p);
+    skip_until_recovery_token(p, &CONST_DEF_EXPR_RECOVERY);
 }
 
 // No declaration: a report, tokens that are skipped, and an Error node.
-fn no_decl(
-    d: u32,
-    s: Reading,
-    text: &[u8],
-    tokens: &[u32],
-    nodes: &mut [u32],
-    values: &mut [u32],
-    reports: &mut [u32],
-    start: u32,
-    public: bool,
-) -> Got
-    ensures { Does text.now tokens.now d (no_decl start (skipping public)) s (memory nodes.old values.old reports.old) result.it result.at (memory nodes.new values.new reports.new) }
+fn no_decl(p: &mut Parser, start: u32, public: bool) -> u32
+    ensures { Does (no_decl start (skipping public)) p.old result p.new }
 {
-    let told = emit_unexpected(d, s, text, tokens, nodes, values, reports);
-    let past = skip(d, told, text, tokens, nodes, values, reports, public);
-    let u = open_from(
-        d,
-        past,
-        text,
-        tokens,
-        nodes,
-        values,
-        reports,
-        start,
-        node::ERROR,
-        0,
-    );
-    close_node(d, u.at, text, tokens, nodes, values, reports, u.it)
+    emit_unexpected(p);
+    skip(p, public);
+    let u = open_from(p, start, node::ERROR, 0);
+    close_node(p, u)
 }
 
 // After `pub`.
-fn public_decl(
-    d: u32,
-    s: Reading,
-    text: &[u8],
-    tokens: &[u32],
-    nodes: &mut [u32],
-    values: &mut [u32],
-    reports: &mut [u32],
-    start: u32,
-) -> Got
-    ensures { Does text.now tokens.now d (public_decl start) s (memory nodes.old values.old reports.old) result.it result.at (memory nodes.new values.new reports.new) }
+fn public_decl(p: &mut Parser, start: u32) -> u32
+    ensures { Does (public_decl start) p.old result p.new }
 {
-    let import = eat(d, s, text, tokens, nodes, values, reports, token::USE);
-    if import.is {
-        return parse_import_decl(
-            d, import.at, text, tokens, nodes, values, reports, start, true,
-        );
+    if eat(p, token::USE) {
+        return parse_import_decl(p, start, true);
     }
-    no_decl(
-        d, import.at, text, tokens, nodes, values, reports, start, true,
-    )
+    no_decl(p, start, true)
 }
 
-fn parse_decl(
-    d: u32,
-    s: Reading,
-    text: &[u8],
-    tokens: &[u32],
-    nodes: &mut [u32],
-    values: &mut [u32],
-    reports: &mut [u32],
-) -> Got
-    ensures { Does text.now tokens.now d parse_decl s (memory nodes.old values.old reports.old) result.it result.at (memory nodes.new values.new reports.new) }
+fn parse_decl(p: &mut Parser) -> u32
+    ensures { Does parse_decl p.old result p.new }
 {
-    let state = s.state;
-    let cursor = state.cursor;
-    let start = cursor.at;
-    let first = steps::eat_first(
-        d,
-        s,
-        text,
-        tokens,
-        nodes,
-        values,
-        reports,
-        &CONST_DEF_EXPR_RECOVERY,
-    );
-    let at = first.at;
-    let it = first.it;
-    match it {
-        0 => readers::block(
-            d,
-            at,
-            text,
-            tokens,
-            nodes,
-            values,
-            reports,
-            start,
-            node::INIT_BLOCK,
-        ),
-        1 => readers::block(
-            d,
-            at,
-            text,
-            tokens,
-            nodes,
-            values,
-            reports,
-            start,
-            node::RUN_BLOCK,
-        ),
-        2 => parse_const_decl(d, at, text, tokens, nodes, values, reports, start),
-        3 => public_decl(d, at, text, tokens, nodes, values, reports, start),
-        4 => parse_import_decl(d, at, text, tokens, nodes, values, reports, start, false),
-        _ => no_decl(d, at, text, tokens, nodes, values, reports, start, false),
+    let start = p.state.cursor.at;
+    match steps::eat_first(p, &CONST_DEF_EXPR_RECOVERY) {
+        0 => readers::block(p, start, node::INIT_BLOCK),
+        1 => readers::block(p, start, node::RUN_BLOCK),
+        2 => parse_const_decl(p, start),
+        3 => public_decl(p, start),
+        4 => parse_import_decl(p, start, false),
+        _ => no_decl(p, start, false),
     }
 }
 
-fn decls(
-    d: u32,
-    s: Reading,
-    text: &[u8],
-    tokens: &[u32],
-    nodes: &mut [u32],
-    values: &mut [u32],
-    reports: &mut [u32],
-    first: Unfinished,
-) -> Opened
-    ensures { Does text.now tokens.now d (Loop first decl_turn) s (memory nodes.old values.old reports.old) result.it result.at (memory nodes.new values.new reports.new) }
+fn decls(p: &mut Parser, first: Unfinished) -> Unfinished
+    ensures { Does (Loop first decl_turn) p.old result p.new }
 {
-    let mut turns = turns_of(tokens);
     let mut file = first;
-    let mut at = s;
-    while 0 < turns {
-        if at.refusal != 0 {
+    for _turn in 0..turns_of(p.tokens) {
+        if p.is_refused() {
             break;
         }
-        turns -= 1;
-        let end = eof(d, at, text, tokens, nodes, values, reports);
-        at = end.at;
-        if end.is {
+        if eof(p) {
             break;
         }
-        let decl = parse_decl(d, at, text, tokens, nodes, values, reports);
-        let more = push_child(
-            d, decl.at, text, tokens, nodes, values, reports, file, decl.it,
-        );
-        file = more.it;
-        at = more.at;
+        let decl = parse_decl(p);
+        file = push_child(p, file, decl);
     }
-    Opened { it: file, at }
+    file
 }
 
-pub fn parse_file(
-    d: u32,
-    s: Reading,
-    text: &[u8],
-    tokens: &[u32],
-    nodes: &mut [u32],
-    values: &mut [u32],
-    reports: &mut [u32],
-) -> Got
-    ensures { Does text.now tokens.now d parse_file s (memory nodes.old values.old reports.old) result.it result.at (memory nodes.new values.new reports.new) }
+pub fn parse_file(p: &mut Parser) -> u32
+    ensures { Does parse_file p.old result p.new }
 {
-    let u = open_here(d, s, text, tokens, nodes, values, reports, node::FILE, 0);
-    let u = decls(d, u.at, text, tokens, nodes, values, reports, u.it);
-    close_node(d, u.at, text, tokens, nodes, values, reports, u.it)
+    let u = open_here(p, node::FILE, 0);
+    let u = decls(p, u);
+    close_node(p, u)
 }

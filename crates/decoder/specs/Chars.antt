@@ -2,9 +2,10 @@
 use Rattle.std.specs.Prelude.{◌≡◌, refl, List, [], ◌∷◌, ℕ, zero, suc, ◌+◌, ◌-◌, ◌≤◌, ◌<◌, length, get_or, drop}
 use Rattle.std.proofs.Common.{◌∙◌, ap, ap₂, add-zero, arith, eq-eqb, ne_eqb, drop_of_length-le, drop-cons, drop-drop}
 use Rattle.std.proofs.Math.ListN.{length-drop}
-use Rattle.utf8.specs.Utf8.{character_at}
+use Rattle.utf8.specs.Utf8.{character, character_at}
 use Rattle.utf8.specs.Laws.{ascii, character-fits}
-use Rattle.utf8.specs.declared.Character.TheVariants.{Is, Nothing}
+use Rattle.std.specs.Prelude.{Some, None}
+use Rattle.utf8.specs.declared.Character.{Character}
 use Rattle.literals.specs.Strings.{Event, byte, Char, char, characters_from, piece, escaped, decoded_from}
 
 -- Characters that are skipped in part start later.
@@ -55,22 +56,22 @@ module _ (w : List ℕ) (i : ℕ) (h : i < length w) where
       let f : suc i + (n - 1) ≡ i + n = omega arith in
       skipped (base + i + 1) (n - 1) s ∙ (rw (drop-drop (n - 1) (suc i) w, e, f))
 
-  pub standing-is : (c n : ℕ) → character_at (drop i w) ≡ Is c n → Standing w i c (i + n)
+  pub standing-is : (c : Character) → character_at (drop i w) ≡ Some c → Standing w i c.code_point (i + c.length)
   unfolding characters_from
-  standing-is c n e =
-      let f = character-fits (drop i w) c n e in
-      let g : character_at (b ∷ s) ≡ Is c n = rw opened at e in
+  standing-is c e =
+      let f = character-fits (drop i w) c e in
+      let g : character_at (b ∷ s) ≡ Some c = rw opened at e in
       let l = length-drop i w in
       record {
-        is = λ base. rw (opened, g, characters_from) (rw (behind base n f.some) (ap (λ (k : ℕ). char c (base + i) k ∷ chars base w (i + n)) (omega arith)));
+        is = λ base. rw (opened, g, characters_from) (rw (behind base c.length f.some) (ap (λ (k : ℕ). char c.code_point (base + i) k ∷ chars base w (i + c.length)) (omega arith)));
         on = omega (arith, f.some);
         within = omega (arith, f.within);
       }
 
-  pub standing-byte : character_at (drop i w) ≡ Nothing → Standing w i b (i + 1)
+  pub standing-byte : character_at (drop i w) ≡ None → Standing w i b (i + 1)
   unfolding characters_from
   standing-byte e =
-      let g : character_at (b ∷ s) ≡ Nothing = rw opened at e in
+      let g : character_at (b ∷ s) ≡ None = rw opened at e in
       record {
         is = λ base. rw (opened, g, characters_from) (rw (behind base 1 (omega arith)) (ap (λ (k : ℕ). char b (base + i) k ∷ chars base w (i + 1)) (omega arith)));
         on = omega arith;
@@ -79,7 +80,7 @@ module _ (w : List ℕ) (i : ℕ) (h : i < length w) where
 
   -- An ASCII byte is its own character.
   pub standing-ascii : b < 128 → Standing w i b (i + 1)
-  standing-ascii p = standing-is b 1 (rw opened (ascii b s p))
+  standing-ascii p = standing-is (character b 1) (rw opened (ascii b s p))
 
 -- Nothing stands past the end.
 pub chars-over : (base : ℕ) (w : List ℕ) (i : ℕ) → length w ≤ i → chars base w i ≡ []

@@ -1,11 +1,9 @@
 -- Bytes packed four to a word, one at a time.
-use Rattle.std.specs.Prelude.{◌≡◌, refl, List, [], ◌∷◌, ◌++◌, ℕ, suc, ◌+◌, ◌-◌, ◌*◌, ◌/◌, ◌%◌, ◌^◌, ◌≤◌, ◌<◌, length, get_or, set, take, drop}
+use Rattle.std.specs.Prelude.{◌≡◌, refl, Option, Some, None, List, [], ◌∷◌, ◌++◌, ℕ, suc, ◌+◌, ◌-◌, ◌*◌, ◌/◌, ◌%◌, ◌^◌, ◌≤◌, ◌<◌, length, get_or, set, take, drop}
 use Rattle.std.proofs.Common.{sym, ◌∙◌, ap, append-nil, arith, length-append, length-drop, take-append-drop, length-take-le, take_at, drop_at}
 use Rattle.std.proofs.Math.Nat.{mod-one}
 use Rattle.utf8.specs.Bytes.{AreBytes, are-bytes-append}
 use Rattle.literals.specs.Strings.{fours}
-use Rattle.values.specs.declared.Count.{Count}
-use Rattle.values.specs.declared.Count.TheVariants.{Words, DontFit}
 use Rattle.words.specs.Parts.{part-whole, part-rest}
 
 pub fours-length : (bs : List ℕ) → length (fours bs) ≡ (length bs + 3) / 4
@@ -54,21 +52,21 @@ pub joined-first : (n word b : ℕ) → n % 4 ≡ 0 → b ≡ joined n word b
 joined-first n word b e = rw (unit-is n 0 e, mod-one) (omega arith)
 
 -- One byte more in front of words.
-abbrev pub PutByte : List ℕ → ℕ → ℕ → Count → List ℕ → Type 0
-PutByte room n b (Words m) room' = (m ≡ n + 1) × (n / 4 < length room) × (room' ≡ set room (n / 4) (joined n (get_or room (n / 4) 0) b))
-PutByte room n b DontFit room' = length room ≤ n / 4
+abbrev pub PutByte : List ℕ → ℕ → ℕ → Option ℕ → List ℕ → Type 0
+PutByte room n b (Some m) room' = (m ≡ n + 1) × (n / 4 < length room) × (room' ≡ set room (n / 4) (joined n (get_or room (n / 4) 0) b))
+PutByte room n b None room' = length room ≤ n / 4
 
 -- The bytes of a string so far: how many, or that they don't fit; they stand behind the place of the first word, which is at `at`.
-abbrev pub HeldBy : List ℕ → ℕ → List ℕ → Count → List ℕ → Type 0
-HeldBy lent at bs (Words n) vs = (n ≡ length bs) × (length (fours bs) ≤ length lent - (at + 1)) × (vs ≡ take (at + 1) lent ++ packed bs (drop (at + 1) lent))
-HeldBy lent at bs DontFit vs = length lent - (at + 1) < length (fours bs)
+abbrev pub HeldBy : List ℕ → ℕ → List ℕ → Option ℕ → List ℕ → Type 0
+HeldBy lent at bs (Some n) vs = (n ≡ length bs) × (length (fours bs) ≤ length lent - (at + 1)) × (vs ≡ take (at + 1) lent ++ packed bs (drop (at + 1) lent))
+HeldBy lent at bs None vs = length lent - (at + 1) < length (fours bs)
 
-pub record Held (lent : List ℕ) (at : ℕ) (bs : List ℕ) (c : Count) (vs : List ℕ) : Type 0 where
+pub record Held (lent : List ℕ) (at : ℕ) (bs : List ℕ) (c : Option ℕ) (vs : List ℕ) : Type 0 where
   pub bytes : AreBytes bs
   pub by : HeldBy lent at bs c vs
   pub long : length vs ≡ length lent
 
-pub held_first : (lent : List ℕ) (at : ℕ) → Held lent at [] (Words 0) lent
+pub held_first : (lent : List ℕ) (at : ℕ) → Held lent at [] (Some 0) lent
 unfolding fours
 held_first lent at = record { bytes = tt; by = (refl, omega arith, sym (take-append-drop (at + 1) lent)); long = refl }
 
@@ -78,14 +76,14 @@ module _ (lent : List ℕ) (at : ℕ) (bs : List ℕ) (b : ℕ) (hb : b < 256) w
   longer = fours-length (bs ++ b ∷ []) ∙ omega (arith, length-append bs (b ∷ []))
 
   module _ (vs vs' : List ℕ) (l : length vs' ≡ length vs) where
-    pub held-still : Held lent at bs DontFit vs → Held lent at (bs ++ b ∷ []) DontFit vs'
+    pub held-still : Held lent at bs None vs → Held lent at (bs ++ b ∷ []) None vs'
     held-still k = record { bytes = are-bytes-append bs (b ∷ []) k.bytes (hb, tt); by = omega (arith, k.by, longer, fours-length bs); long = l ∙ k.long }
 
-    module _ (n : ℕ) (k : Held lent at bs (Words n) vs) where
-      pub held_none : length vs ≤ at → Held lent at (bs ++ b ∷ []) DontFit vs'
+    module _ (n : ℕ) (k : Held lent at bs (Some n) vs) where
+      pub held_none : length vs ≤ at → Held lent at (bs ++ b ∷ []) None vs'
       held_none h = record { bytes = are-bytes-append bs (b ∷ []) k.bytes (hb, tt); by = omega (arith, k.long, longer); long = l ∙ k.long }
 
-      module _ (h : at < length vs) (c : Count) (room' : List ℕ) (p : PutByte (take (length vs - (at + 1)) (drop (at + 1) vs)) n b c room')
+      module _ (h : at < length vs) (c : Option ℕ) (room' : List ℕ) (p : PutByte (take (length vs - (at + 1)) (drop (at + 1) vs)) n b c room')
           (e : vs' ≡ take (at + 1) vs ++ (room' ++ drop (length vs - (at + 1)) (drop (at + 1) vs))) where
         front : length (take (at + 1) lent) ≡ at + 1
         front = length-take-le (at + 1) lent (omega (arith, k.long))
@@ -99,9 +97,9 @@ module _ (lent : List ℕ) (at : ℕ) (bs : List ℕ) (b : ℕ) (hb : b < 256) w
         room-long : length (take (length vs - (at + 1)) (drop (at + 1) vs)) ≡ length lent - (at + 1)
         room-long = ap length (part-whole (at + 1) vs) ∙ (length-drop (at + 1) vs ∙ (rw k.long))
 
-        step : (r : Count) → PutByte (take (length vs - (at + 1)) (drop (at + 1) vs)) n b r room' → HeldBy lent at (bs ++ b ∷ []) r vs'
-        step DontFit q = omega (arith, q, room-long, longer, k.by.0)
-        step (Words m) q =
+        step : (r : Option ℕ) → PutByte (take (length vs - (at + 1)) (drop (at + 1) vs)) n b r room' → HeldBy lent at (bs ++ b ∷ []) r vs'
+        step None q = omega (arith, q, room-long, longer, k.by.0)
+        step (Some m) q =
             let en : n ≡ length bs = k.by.0 in
             let fit : length bs / 4 < length (drop (at + 1) lent) = omega (arith, q.1, room-long, en, length-drop (at + 1) lent) in (
               omega (arith, q.0, length-append bs (b ∷ [])),
@@ -113,17 +111,17 @@ module _ (lent : List ℕ) (at : ℕ) (bs : List ℕ) (b : ℕ) (hb : b < 256) w
         held_more = record { bytes = are-bytes-append bs (b ∷ []) k.bytes (hb, tt); by = step c p; long = l ∙ k.long }
 
 -- What pushing a byte does, whatever was held.
-pub record PushByte (at b : ℕ) (c : Count) (vs : List ℕ) (c' : Count) (vs' : List ℕ) : Type 0 where
+pub record PushByte (at b : ℕ) (c : Option ℕ) (vs : List ℕ) (c' : Option ℕ) (vs' : List ℕ) : Type 0 where
   pub holds : (lent bs : List ℕ) → Held lent at bs c vs → Held lent at (bs ++ b ∷ []) c' vs'
 
-module _ (at b : ℕ) (hb : b < 256) (vs vs' : List ℕ) (l : length vs' ≡ length vs) (c : Count) where
-  pub push-still : c ≡ DontFit → PushByte at b c vs DontFit vs'
+module _ (at b : ℕ) (hb : b < 256) (vs vs' : List ℕ) (l : length vs' ≡ length vs) (c : Option ℕ) where
+  pub push-still : c ≡ None → PushByte at b c vs None vs'
   push-still e = record { holds = λ lent bs k. held-still lent at bs b hb vs vs' l (rw e at k) }
 
-  module _ (n : ℕ) (e : c ≡ Words n) where
-    pub push-none : length vs ≤ at → PushByte at b c vs DontFit vs'
+  module _ (n : ℕ) (e : c ≡ Some n) where
+    pub push-none : length vs ≤ at → PushByte at b c vs None vs'
     push-none h = record { holds = λ lent bs k. held_none lent at bs b hb vs vs' l n (rw e at k) h }
 
-    pub push-put : at < length vs → (r : Count) (room' : List ℕ) → PutByte (take (length vs - (at + 1)) (drop (at + 1) vs)) n b r room'
+    pub push-put : at < length vs → (r : Option ℕ) (room' : List ℕ) → PutByte (take (length vs - (at + 1)) (drop (at + 1) vs)) n b r room'
         → vs' ≡ take (at + 1) vs ++ (room' ++ drop (length vs - (at + 1)) (drop (at + 1) vs)) → PushByte at b c vs r vs'
     push-put h r room' p f = record { holds = λ lent bs k. held_more lent at bs b hb vs vs' l n (rw e at k) h r room' p f }

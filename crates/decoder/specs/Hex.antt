@@ -1,18 +1,18 @@
 -- The digits of a `hex"` token, one and two at a time.
 use Rattle.std.proofs.Math.Path.{◌≡◌, refl}
 use Rattle.std.proofs.Common.{◌∙◌, arith}
-use Rattle.std.specs.Prelude.{Bool, ◌||◌, ℕ, ◌+◌, ◌*◌, ◌≤◌, ◌<◌, length}
+use Rattle.std.specs.Prelude.{Bool, not, Option, Some, None, is_some, unwrap_or, ◌||◌, ℕ, ◌+◌, ◌*◌, ◌≤◌, ◌<◌, length}
 use Rattle.std.proofs.Math.Bool.{true, false}
-use Rattle.std.proofs.Math.Option.{Option, none, some}
+use Rattle.std.proofs.Math.Option as Math
+use Rattle.std.proofs.Math.Option.{none, some}
 use mathlib.Core.List.{List, [], ◌∷◌, ◌++◌, append-nil, append_assoc}
 use Rattle.std.proofs.Math.Dec.{lit<}
 use Rattle.words.specs.Report
 use Rattle.literals.specs.declared.Span.{Span}
 use Rattle.literals.specs.Numbers.{nibble}
 use Rattle.literals.specs.Strings.{Event, byte, report, Char, char, bad_digit, is_bad, digit_or0, hex_from}
-use Rattle.definition.specs.Prog.{Memory}
-use Rattle.reading.specs.declared.Reading.{Reading}
-use Rattle.values.specs.declared.Count.{Count}
+use Rattle.reading.specs.declared.parser.Parser.{Parser}
+use Rattle.values.specs.Digits.{option, Under}
 use Rattle.decoder.specs.Decodes.{Decodes, decodes-then}
 use Rattle.decoder.specs.Chars.{chars, chars-over, Standing}
 
@@ -24,13 +24,19 @@ pub record Digit (w : List ℕ) (i code end digit : ℕ) (bad : Bool) : Type 0 w
   pub small : digit < 16
 
 module _ (w : List ℕ) (i code end : ℕ) (st : Standing w i code end) where
-  pub digit-good : (d : ℕ) → some d ≡ nibble code → d < 16 → Digit w i code end d false
+  digit-good : (d : ℕ) → some d ≡ nibble code → d < 16 → Digit w i code end d false
   unfolding digit_or0 is_bad
   digit-good d e h = record { stands = st; counts = λ start stop. rw (← e, digit_or0); fails = λ start stop. rw (← e, is_bad); small = h }
 
-  pub digit-bad : none ≡ nibble code → Digit w i code end 0 true
+  digit-bad : none ≡ nibble code → Digit w i code end 0 true
   unfolding digit_or0 is_bad
   digit-bad e = record { stands = st; counts = λ start stop. rw (← e, digit_or0); fails = λ start stop. rw (← e, is_bad); small = lit< tt }
+
+  pub digit-told : (r : Option ℕ) → option r ≡ nibble code → Under 16 r → (b : Bool) → is_some r ≡ not b → Digit w i code end (unwrap_or r 0) b
+  digit-told (Some d) e h false g = digit-good d e h
+  digit-told (Some d) e h true g = absurd cc
+  digit-told None e h false g = absurd cc
+  digit-told None e h true g = digit-bad e
 
 -- What the digits of the bytes `w` decode to, which begin at the offset `base`, from byte `i` on.
 abbrev pub hex_events : Span → Bool → ℕ → List ℕ → ℕ → List Event
@@ -62,65 +68,72 @@ module _ (already : Bool) (c : Char) where
   unfolding bad_digit
   bad-already e = go (nibble c.code) refl
     where
-      go : (o : Option ℕ) → nibble c.code ≡ o → bad_digit already c ≡ []
+      go : (o : Math.Option ℕ) → nibble c.code ≡ o → bad_digit already c ≡ []
       go (some d) f = rw (f, bad_digit)
       go none f = rw (f, bad_digit, e)
 
-  pub bad-fine : false ≡ is_bad c → bad_digit already c ≡ []
-  unfolding bad_digit is_bad
-  bad-fine e = go (nibble c.code) refl
-    where
-      go : (o : Option ℕ) → nibble c.code ≡ o → bad_digit already c ≡ []
-      go (some d) f = rw (f, bad_digit)
-      go none f = absurd (let g : false ≡ true = e ∙ rw (f, is_bad) in let z : ◌≡◌ {A = ℕ} 0 1 = cc in omega arith)
+  module _ (b : Bool) (e : b ≡ is_bad c) where
+    pub bad-fine : not b ≡ true → bad_digit already c ≡ []
+    unfolding bad_digit is_bad
+    bad-fine n = go (nibble c.code) refl
+      where
+        go : (o : Math.Option ℕ) → nibble c.code ≡ o → bad_digit already c ≡ []
+        go (some d) f = rw (f, bad_digit)
+        go none f =
+            let g : b ≡ true = e ∙ rw (f, is_bad) in
+            let h : false ≡ true = rw g at n in
+            absurd cc
 
-  pub bad-new : already ≡ false → true ≡ is_bad c → bad_digit already c ≡ report Report.NonHexDigit c.code c.place ∷ []
-  unfolding bad_digit is_bad
-  bad-new a e = go (nibble c.code) refl
-    where
-      go : (o : Option ℕ) → nibble c.code ≡ o → bad_digit already c ≡ report Report.NonHexDigit c.code c.place ∷ []
-      go (some d) f = absurd (let g : true ≡ false = e ∙ rw (f, is_bad) in let z : ◌≡◌ {A = ℕ} 0 1 = cc in omega arith)
-      go none f = rw (f, bad_digit, a)
+    pub bad-new : already ≡ false → not b ≡ false → bad_digit already c ≡ report Report.NonHexDigit c.code c.place ∷ []
+    unfolding bad_digit is_bad
+    bad-new a n = go (nibble c.code) refl
+      where
+        go : (o : Math.Option ℕ) → nibble c.code ≡ o → bad_digit already c ≡ report Report.NonHexDigit c.code c.place ∷ []
+        go (some d) f =
+            let g : b ≡ false = e ∙ rw (f, is_bad) in
+            let h : true ≡ false = rw g at n in
+            absurd cc
+        go none f = rw (f, bad_digit, a)
 
 or_same : (a b c : Bool) → ((a || b) || c) ≡ (a || b || c)
 or_same true b c = refl
 or_same false b c = refl
 
 -- One turn: a digit and the next one, or a lone last one.
-pub record Turn (text tokens : List ℕ) (d : ℕ) (token : Span) (at base : ℕ) (w : List ℕ) (i : ℕ) (already : Bool) (s : Reading) (c : Count) (m : Memory) (next : ℕ) (already' : Bool) (s' : Reading) (c' : Count) (m' : Memory) : Type 0 where
+pub record Turn (token : Span) (at base : ℕ) (w : List ℕ) (i : ℕ) (already : Bool) (c : Option ℕ) (p : Parser) (next : ℕ) (already' : Bool) (c' : Option ℕ) (p' : Parser) : Type 0 where
   pub past : List Event
   pub is : hex_events token already base w i ≡ past ++ hex_events token already' base w next
-  pub decodes : Decodes text tokens d past at s c m s' c' m'
+  pub decodes : Decodes past at c p c' p'
   pub on : i < next
   pub within : next ≤ length w
 
-module _ (text tokens : List ℕ) (d : ℕ) (token : Span) (at base : ℕ) (w : List ℕ) (i : ℕ) (already : Bool) (s : Reading) (c : Count) (m : Memory)
+module _ (token : Span) (at base : ℕ) (w : List ℕ) (i : ℕ) (already : Bool) (c : Option ℕ) (p : Parser)
     (code end digit : ℕ) (bad : Bool) (g : Digit w i code end digit bad)
-    (s₁ : Reading) (c₁ : Count) (m₁ : Memory) (first : Decodes text tokens d (bad_digit already (char code (base + i) (base + end))) at s c m s₁ c₁ m₁) where
-  pub turn_odd : (s₂ : Reading) (c₂ : Count) (m₂ : Memory) (already' : Bool) → length w ≤ end → Decodes text tokens d (report Report.OddDigits 0 token ∷ []) at s₁ c₁ m₁ s₂ c₂ m₂
-      → Turn text tokens d token at base w i already s c m end already' s₂ c₂ m₂
-  turn_odd s₂ c₂ m₂ already' h e =
+    (c₁ : Option ℕ) (p₁ : Parser) (first : Decodes (bad_digit already (char code (base + i) (base + end))) at c p c₁ p₁) where
+  pub turn_odd : (c₂ : Option ℕ) (p₂ : Parser) (already' : Bool) → length w ≤ end → Decodes (report Report.OddDigits 0 token ∷ []) at c₁ p₁ c₂ p₂
+      → Turn token at base w i already c p end already' c₂ p₂
+  turn_odd c₂ p₂ already' h e =
       record {
         past = bad_digit already (char code (base + i) (base + end)) ++ (report Report.OddDigits 0 token ∷ []);
         is = hex-odd token already base w i code end digit bad g h ∙ rw (hex-over token already' base w end h, append-nil);
-        decodes = decodes-then text tokens d at s c m _ _ s₁ c₁ m₁ s₂ c₂ m₂ first e;
+        decodes = decodes-then at c p _ _ c₁ p₁ c₂ p₂ first e;
         on = g.stands.on;
         within = g.stands.within;
       }
 
   pub turn-pair : (already₁ already₂ : Bool) → already₁ ≡ (already || bad)
       → (code₂ end₂ digit₂ : ℕ) (bad₂ : Bool) → Digit w end code₂ end₂ digit₂ bad₂ → already₂ ≡ (already₁ || bad₂)
-      → (s₂ : Reading) (c₂ : Count) (m₂ : Memory) → Decodes text tokens d (bad_digit already₁ (char code₂ (base + end) (base + end₂))) at s₁ c₁ m₁ s₂ c₂ m₂
-      → (s₃ : Reading) (c₃ : Count) (m₃ : Memory) → Decodes text tokens d (byte (16 * digit + digit₂) ∷ []) at s₂ c₂ m₂ s₃ c₃ m₃
-      → Turn text tokens d token at base w i already s c m end₂ already₂ s₃ c₃ m₃
-  turn-pair already₁ already₂ e₁ code₂ end₂ digit₂ bad₂ k e₂ s₂ c₂ m₂ second s₃ c₃ m₃ third =
+      → (c₂ : Option ℕ) (p₂ : Parser) → Decodes (bad_digit already₁ (char code₂ (base + end) (base + end₂))) at c₁ p₁ c₂ p₂
+      → (c₃ : Option ℕ) (p₃ : Parser) → Decodes (byte (16 * digit + digit₂) ∷ []) at c₂ p₂ c₃ p₃
+      → Turn token at base w i already c p end₂ already₂ c₃ p₃
+  turn-pair already₁ already₂ e₁ code₂ end₂ digit₂ bad₂ k e₂ c₂ p₂ second c₃ p₃ third =
       let one = bad_digit already (char code (base + i) (base + end)) in
       let two = bad_digit already₁ (char code₂ (base + end) (base + end₂)) in
       let pair : List Event = byte (16 * digit + digit₂) ∷ [] in
       record {
         past = one ++ (two ++ pair);
         is = hex-pair token already base w i code end digit bad g code₂ end₂ digit₂ bad₂ k ∙ rw (e₂, e₁, or_same already bad bad₂) (simp append_assoc);
-        decodes = decodes-then text tokens d at s c m one (two ++ pair) s₁ c₁ m₁ s₃ c₃ m₃ first (decodes-then text tokens d at s₁ c₁ m₁ two pair s₂ c₂ m₂ s₃ c₃ m₃ second third);
+        decodes = decodes-then at c p one (two ++ pair) c₁ p₁ c₃ p₃ first (decodes-then at c₁ p₁ two pair c₂ p₂ c₃ p₃ second third);
         on = omega (arith, g.stands.on, k.stands.on);
         within = k.stands.within;
       }

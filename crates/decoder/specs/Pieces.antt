@@ -1,5 +1,5 @@
 -- What a byte, or a backslash and what it takes, decodes to, by case.
-use Rattle.std.specs.Prelude.{◌≡◌, refl, ℕ, ◌+◌, ◌*◌, ◌≤◌, ◌<◌, length, get_or}
+use Rattle.std.specs.Prelude.{◌≡◌, refl, Option, Some, None, ℕ, ◌+◌, ◌*◌, ◌≤◌, ◌<◌, length, get_or}
 use Rattle.std.proofs.Common.{◌∙◌}
 use Rattle.std.proofs.Math.Option.{none, some}
 use mathlib.Core.List.{List, [], ◌∷◌}
@@ -9,6 +9,7 @@ use Rattle.words.specs.Report
 use Rattle.literals.specs.Spelling.{span}
 use Rattle.literals.specs.Numbers.{nibble}
 use Rattle.literals.specs.Strings.{Event, byte, report, Char, char, end_after, piece, escape, two_digits, escaped}
+use Rattle.values.specs.Digits.{option}
 use Rattle.decoder.specs.declared.Event as code
 use Rattle.decoder.specs.declared.Event.TheVariants.{Byte, Report}
 use Rattle.decoder.specs.Chars.{chars, events, chars-over, Standing, event-escape}
@@ -107,6 +108,10 @@ module _ (base : ℕ) (w : List ℕ) (i : ℕ) (slash : Slash w i) where
             pub cut-digits : (l : ℕ) → some l ≡ nibble code₄ → h < 16 → l < 16 → Cut base w i (byte (16 * h + l)) end₄
             unfolding two_digits
             cut-digits l el hh hl = cut-pair (16 * h + l) end₄ (rw (two, ← eh, ← el, two_digits)) ends (omega (arith, st₃.on, st₄.on)) st₄.within (omega arith)
+
+          pub cut-no-second : (x : Option ℕ) → option x ≡ nibble code₃ → none ≡ nibble code₄ → Cut base w i (bad end₄) end₄
+          cut-no-second (Some h) e f = cut-one-digit h e f
+          cut-no-second None e f = cut-no-digit e
 
 -- What a function answers that cuts a piece off.
 abbrev pub Cuts : ℕ → List ℕ → ℕ → code.Event → ℕ → Type 0

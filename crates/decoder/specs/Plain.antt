@@ -1,5 +1,5 @@
 -- Plain bytes of a string, those that are no backslash: each stands for itself, and four of them fill a word.
-use Rattle.std.specs.Prelude.{◌≡◌, Bool, true, false, not, length, get_or, set, take, drop}
+use Rattle.std.specs.Prelude.{◌≡◌, Option, Some, Bool, true, false, not, length, get_or, set, take, drop}
 use Rattle.std.proofs.Math.Path.{refl, ap}
 use Rattle.std.proofs.Common.{sym, ◌∙◌, length-append, length-drop, length-set, length-take-le}
 use mathlib.Core.List.{List, [], ◌∷◌, ◌++◌, append-nil, append_assoc}
@@ -7,12 +7,10 @@ use Prim.Native.Nat.{ℕ, zero, suc, ◌+◌, ◌*◌, ◌/◌, ◌%◌, ◌≤�
 use native.Mathlib.Omega.{arith}
 use Rattle.utf8.specs.Bytes.{AreBytes, are-bytes-append}
 use Rattle.literals.specs.Strings.{Event, byte, fours, bytes_of}
-use Rattle.definition.specs.Prog.{Memory, memory}
 use Rattle.definition.specs.Strings.{emit_events}
-use Rattle.reading.specs.declared.Reading.{Reading}
+use Rattle.reading.specs.declared.parser.Parser.{Parser}
 use Rattle.reading.specs.Does.{gives}
-use Rattle.values.specs.declared.Count.{Count}
-use Rattle.values.specs.declared.Count.TheVariants.{Words}
+use Rattle.values.specs.Kept.{lending}
 use Rattle.decoder.specs.Chars.{events, event-byte}
 use Rattle.decoder.specs.declared.Event as code
 use Rattle.decoder.specs.declared.Event.TheVariants.{Byte}
@@ -98,8 +96,8 @@ module _ (a b c d : ℕ) where
       let q : n / 4 ≡ suc (length s / 4) = omega arith in
       rw q (ap (λ (l : List ℕ). word x x₁ x₂ x₃ ∷ l) (packed-four s room (omega arith) (omega arith)))
 
-  pub held-four : (lent : List ℕ) (at : ℕ) (bs vs : List ℕ) (n : ℕ) → AreBytes quad → Held lent at bs (Words n) vs → n % 4 ≡ 0 → at + 1 + n / 4 < length vs
-      → Held lent at (bs ++ quad) (Words (n + 4)) (set vs (at + 1 + n / 4) (word a b c d))
+  pub held-four : (lent : List ℕ) (at : ℕ) (bs vs : List ℕ) (n : ℕ) → AreBytes quad → Held lent at bs (Some n) vs → n % 4 ≡ 0 → at + 1 + n / 4 < length vs
+      → Held lent at (bs ++ quad) (Some (n + 4)) (set vs (at + 1 + n / 4) (word a b c d))
   held-four lent at bs vs n q k m h =
       let en : n ≡ length bs = k.by.0 in
       let l : length (bs ++ quad) ≡ length bs + 4 = length-append bs quad in
@@ -118,7 +116,7 @@ module _ (a b c d : ℕ) where
 
 -- ---- a stretch from byte `i` up to byte `j` that is bytes of the value, stored
 
-pub record Stretch (base : ℕ) (w : List ℕ) (i j at : ℕ) (c : Count) (vs : List ℕ) (c' : Count) (vs' : List ℕ) : Type 0 where
+pub record Stretch (base : ℕ) (w : List ℕ) (i j at : ℕ) (c : Option ℕ) (vs : List ℕ) (c' : Option ℕ) (vs' : List ℕ) : Type 0 where
   pub past : List ℕ
   pub left : events base w i ≡ plainly past ++ events base w j
   pub on : i ≤ j
@@ -126,14 +124,14 @@ pub record Stretch (base : ℕ) (w : List ℕ) (i j at : ℕ) (c : Count) (vs : 
   pub holds : (lent bs : List ℕ) → Held lent at bs c vs → Held lent at (bs ++ past) c' vs'
   pub long : length vs' ≡ length vs
 
-module _ (base : ℕ) (w : List ℕ) (i at : ℕ) (c : Count) (vs : List ℕ) where
+module _ (base : ℕ) (w : List ℕ) (i at : ℕ) (c : Option ℕ) (vs : List ℕ) where
   pub stretch-none : i ≤ length w → Stretch base w i i at c vs c vs
   unfolding plainly
   stretch-none h = record { past = []; left = refl; on = omega arith; within = h; holds = λ lent bs k. rw append-nil k; long = refl }
 
   -- A byte, by the piece at byte `j`.
-  pub stretch-byte : (j : ℕ) (c₁ : Count) (vs₁ : List ℕ) → Stretch base w i j at c vs c₁ vs₁ → (e : code.Event) (b next : ℕ) → Cuts base w j e next → e ≡ Byte b
-      → (c₂ : Count) (vs₂ : List ℕ) → PushByte at b c₁ vs₁ c₂ vs₂ → length vs₂ ≡ length vs₁ → Stretch base w i next at c vs c₂ vs₂
+  pub stretch-byte : (j : ℕ) (c₁ : Option ℕ) (vs₁ : List ℕ) → Stretch base w i j at c vs c₁ vs₁ → (e : code.Event) (b next : ℕ) → Cuts base w j e next → e ≡ Byte b
+      → (c₂ : Option ℕ) (vs₂ : List ℕ) → PushByte at b c₁ vs₁ c₂ vs₂ → length vs₂ ≡ length vs₁ → Stretch base w i next at c vs c₂ vs₂
   unfolding plainly
   stretch-byte j c₁ vs₁ t e b next k ee c₂ vs₂ p l =
       let cut : Cut base w j (byte b) next = rw ee at k in
@@ -146,7 +144,7 @@ module _ (base : ℕ) (w : List ℕ) (i at : ℕ) (c : Count) (vs : List ℕ) wh
         long = l ∙ t.long;
       }
 
-  pub stretch-then : (j : ℕ) (c₁ : Count) (vs₁ : List ℕ) (k : ℕ) (c₂ : Count) (vs₂ : List ℕ) → Stretch base w i j at c vs c₁ vs₁ → Stretch base w j k at c₁ vs₁ c₂ vs₂ → Stretch base w i k at c vs c₂ vs₂
+  pub stretch-then : (j : ℕ) (c₁ : Option ℕ) (vs₁ : List ℕ) (k : ℕ) (c₂ : Option ℕ) (vs₂ : List ℕ) → Stretch base w i j at c vs c₁ vs₁ → Stretch base w j k at c₁ vs₁ c₂ vs₂ → Stretch base w i k at c vs c₂ vs₂
   stretch-then j c₁ vs₁ k c₂ vs₂ t u =
       record {
         past = t.past ++ u.past;
@@ -158,7 +156,7 @@ module _ (base : ℕ) (w : List ℕ) (i at : ℕ) (c : Count) (vs : List ℕ) wh
       }
 
   -- Four plain bytes from byte `j` on.
-  module _ (j n : ℕ) (vs₁ : List ℕ) (t : Stretch base w i j at c vs (Words n) vs₁) (h : j + 4 ≤ length w)
+  module _ (j n : ℕ) (vs₁ : List ℕ) (t : Stretch base w i j at c vs (Some n) vs₁) (h : j + 4 ≤ length w)
       (q : Quad (get_or w j 0) (get_or w (j + 1) 0) (get_or w (j + 2) 0) (get_or w (j + 3) 0)) where
     abbrev next : List ℕ
     next = get_or w j 0 ∷ get_or w (j + 1) 0 ∷ get_or w (j + 2) 0 ∷ get_or w (j + 3) 0 ∷ []
@@ -174,7 +172,7 @@ module _ (base : ℕ) (w : List ℕ) (i at : ℕ) (c : Count) (vs : List ℕ) wh
         ∙ ap (λ (es : List Event). byte (get_or w (j + 2) 0) ∷ es) (plain-event base w (j + 3) (j + 4) (omega arith) (omega arith) q.fourth)))
 
     pub stretch-four : n % 4 ≡ 0 → at + 1 + n / 4 < length vs₁
-        → Stretch base w i (j + 4) at c vs (Words (n + 4)) (set vs₁ (at + 1 + n / 4) (word (get_or w j 0) (get_or w (j + 1) 0) (get_or w (j + 2) 0) (get_or w (j + 3) 0)))
+        → Stretch base w i (j + 4) at c vs (Some (n + 4)) (set vs₁ (at + 1 + n / 4) (word (get_or w j 0) (get_or w (j + 1) 0) (get_or w (j + 2) 0) (get_or w (j + 3) 0)))
     stretch-four m f =
         record {
           past = t.past ++ next;
@@ -188,16 +186,16 @@ module _ (base : ℕ) (w : List ℕ) (i at : ℕ) (c : Count) (vs : List ℕ) wh
         }
 
   -- The same, by how many words there are, as the code counts them.
-  pub stretch-first : i ≤ length w → (n : ℕ) → c ≡ Words n → Stretch base w i (i + 4 * 0) at c vs (Words (n + 4 * 0)) vs
+  pub stretch-first : i ≤ length w → (n : ℕ) → c ≡ Some n → Stretch base w i (i + 4 * 0) at c vs (Some (n + 4 * 0)) vs
   stretch-first h n ec =
       let e : i + 4 * 0 ≡ i = omega arith in
       let f : n + 4 * 0 ≡ n = omega arith in
       rw (e, f, ← ec) (stretch-none h)
 
-  pub stretch-next : (n k : ℕ) (vs₁ : List ℕ) → Stretch base w i (i + 4 * k) at c vs (Words (n + 4 * k)) vs₁ → i + 4 * k + 4 ≤ length w
+  pub stretch-next : (n k : ℕ) (vs₁ : List ℕ) → Stretch base w i (i + 4 * k) at c vs (Some (n + 4 * k)) vs₁ → i + 4 * k + 4 ≤ length w
       → Quad (get_or w (i + 4 * k) 0) (get_or w (i + 4 * k + 1) 0) (get_or w (i + 4 * k + 2) 0) (get_or w (i + 4 * k + 3) 0) → n % 4 ≡ 0 → at + 1 + n / 4 + k < length vs₁
       → (x : ℕ) → x ≡ word (get_or w (i + 4 * k) 0) (get_or w (i + 4 * k + 1) 0) (get_or w (i + 4 * k + 2) 0) (get_or w (i + 4 * k + 3) 0)
-      → Stretch base w i (i + 4 * (k + 1)) at c vs (Words (n + 4 * (k + 1))) (set vs₁ (at + 1 + n / 4 + k) x)
+      → Stretch base w i (i + 4 * (k + 1)) at c vs (Some (n + 4 * (k + 1))) (set vs₁ (at + 1 + n / 4 + k) x)
   stretch-next n k vs₁ t h q m f x ex =
       let e : i + 4 * (k + 1) ≡ i + 4 * k + 4 = omega arith in
       let en : n + 4 * (k + 1) ≡ n + 4 * k + 4 = omega arith in
@@ -206,8 +204,8 @@ module _ (base : ℕ) (w : List ℕ) (i at : ℕ) (c : Count) (vs : List ℕ) wh
 
 -- ---- a stretch as a part of decoding
 
-module _ (text tokens : List ℕ) (d at base : ℕ) (w : List ℕ) (i j : ℕ) (s : Reading) (c : Count) (ns vs rs : List ℕ) (c' : Count) (vs' : List ℕ) (t : Stretch base w i j at c vs c' vs') where
-  decodes-stretch : Decodes text tokens d (plainly t.past) at s c (memory ns vs rs) s c' (memory ns vs' rs)
+module _ (at base : ℕ) (w : List ℕ) (i j : ℕ) (c : Option ℕ) (p : Parser) (c' : Option ℕ) (vs' : List ℕ) (t : Stretch base w i j at c p.values.now c' vs') where
+  decodes-stretch : Decodes (plainly t.past) at c p c' (lending p vs')
   unfolding emit_events
   decodes-stretch =
       record {
@@ -215,12 +213,9 @@ module _ (text tokens : List ℕ) (d at base : ℕ) (w : List ℕ) (i j : ℕ) (
         holds = λ right lent bs h k. rw (plainly-bytes t.past) (t.holds lent bs k);
       }
 
-  pub decodes-past : (s₂ : Reading) (c₂ : Count) (m₂ : Memory) → Decodes text tokens d (events base w j) at s c' (memory ns vs' rs) s₂ c₂ m₂
-      → Decodes text tokens d (events base w i) at s c (memory ns vs rs) s₂ c₂ m₂
-  decodes-past s₂ c₂ m₂ f =
-      rw t.left (decodes-then text tokens d at s c (memory ns vs rs) (plainly t.past) (events base w j) s c' (memory ns vs' rs) s₂ c₂ m₂ decodes-stretch f)
+  pub decodes-past : (c₂ : Option ℕ) (p₂ : Parser) → Decodes (events base w j) at c' (lending p vs') c₂ p₂ → Decodes (events base w i) at c p c₂ p₂
+  decodes-past c₂ p₂ f = rw t.left (decodes-then at c p (plainly t.past) (events base w j) c' (lending p vs') c₂ p₂ decodes-stretch f)
 
-  pub walk-stretch : (total : List Event) (s₀ : Reading) (c₀ : Count) (m₀ : Memory) → Walk text tokens d at total s₀ c₀ m₀ (events base w i) s c (memory ns vs rs)
-      → Walk text tokens d at total s₀ c₀ m₀ (events base w j) s c' (memory ns vs' rs)
-  walk-stretch total s₀ c₀ m₀ k =
-      walk-on text tokens d at total s₀ c₀ m₀ (events base w i) s c (memory ns vs rs) k (plainly t.past) (events base w j) s c' (memory ns vs' rs) t.left decodes-stretch refl t.long refl
+  pub walk-stretch : (total : List Event) (c₀ : Option ℕ) (p₀ : Parser) → Walk at total c₀ p₀ (events base w i) c p
+      → Walk at total c₀ p₀ (events base w j) c' (lending p vs')
+  walk-stretch total c₀ p₀ k = walk-on at total c₀ p₀ (events base w i) c p k (plainly t.past) (events base w j) c' (lending p vs') t.left decodes-stretch

@@ -1,63 +1,56 @@
 // The bytes of a string, four to a word, as they come.
-ghost use Rattle.std.specs.Prelude.{◌≡◌, true, false, ℕ, ◌+◌, ◌*◌, ◌/◌, ◌%◌, ◌≤◌, ◌<◌, length};
-ghost use Rattle.values.specs.declared.Count.TheVariants.{Words};
+ghost use Rattle.std.specs.Prelude.{◌≡◌, true, false, Some, ℕ, ◌+◌, ◌*◌, ◌/◌, ◌%◌, ◌≤◌, ◌<◌, length};
 ghost use Rattle.decoder.specs.Fours.{joined, PutByte, PushByte};
 ghost use Rattle.decoder.specs.Plain.{Plain, Quad, word, Stretch};
-
-use values::Count;
 
 // A word with its n-th byte, above those before it. What stood above is cut off.
 fn joined(n: usize, word: u32, b: u32) -> u32
     requires { b < 256 }
     ensures { result ≡ joined n word b }
 {
-    let k = n % 4;
-    if k == 0 {
-        return b;
+    match n % 4 {
+        0 => b,
+        1 => word % 256 + b * 256,
+        2 => word % 65536 + b * 65536,
+        _ => word % 16777216 + b * 16777216,
     }
-    if k == 1 {
-        return word % 256 + b * 256;
-    }
-    if k == 2 {
-        return word % 65536 + b * 65536;
-    }
-    word % 16777216 + b * 16777216
 }
 
 // The n-th byte, in front of `room`.
-fn put_byte(room: &mut [u32], n: usize, b: u32) -> Count
+fn put_byte(room: &mut [u32], n: usize, b: u32) -> Option<usize>
     requires { b < 256 }
     ensures { PutByte room.old n b result room.new }
 {
     let k = n / 4;
     if room.len() <= k {
-        return Count::DontFit;
+        return None;
     }
     room[k] = joined(n, room[k], b);
-    Count::Words(n + 1)
+    Some(n + 1)
 }
 
 // One byte more, behind the place of the first word, which is at `at`. What doesn't fit is not written.
-pub(crate) fn push_byte(values: &mut [u32], at: usize, count: Count, b: u32) -> Count
+pub(crate) fn push_byte(
+    values: &mut [u32],
+    at: usize,
+    count: Option<usize>,
+    b: u32,
+) -> Option<usize>
     requires { b < 256 }
     ensures { PushByte at b count values.old result values.new }
 {
-    match count {
-        Count::Words(n) => {
-            if values.len() <= at {
-                return Count::DontFit;
-            }
-            let start = at + 1;
-            put_byte(&mut values[start..], n, b)
-        }
-        Count::DontFit => Count::DontFit,
+    let n = count?;
+    if values.len() <= at {
+        return None;
     }
+    let start = at + 1;
+    put_byte(&mut values[start..], n, b)
 }
 
 // Where a stretch of plain bytes ends, and how many bytes there are then.
 #[derive(Clone, Copy)]
 pub(crate) struct Filled {
-    pub count: Count,
+    pub count: Option<usize>,
     pub next: usize,
 }
 
@@ -65,25 +58,13 @@ pub(crate) struct Filled {
 pub(crate) fn plain(b: u8) -> bool
     ensures { (result ≡ true → Plain b) × (result ≡ false → b ≡ 92) }
 {
-    if b == 92 {
-        return false;
-    }
-    true
+    b != 92
 }
 
 fn all_plain(a: u8, b: u8, c: u8, e: u8) -> bool
     ensures { result ≡ true → Quad a b c e }
 {
-    if !plain(a) {
-        return false;
-    }
-    if !plain(b) {
-        return false;
-    }
-    if !plain(c) {
-        return false;
-    }
-    plain(e)
+    plain(a) && plain(b) && plain(c) && plain(e)
 }
 
 // Four bytes as a word, the first lowest.
@@ -97,11 +78,10 @@ fn word(a: u8, b: u8, c: u8, e: u8) -> u32
 // how many words, at most `limit`.
 fn put_words(values: &mut [u32], at: usize, n: usize, w: &[u8], i: usize, limit: usize) -> usize
     requires { (n % 4 ≡ 0) × (at + 1 + n / 4 + limit ≤ length values.old) × (i + 4 * limit ≤ length w.now) }
-    ensures { (result ≤ limit) × ((base : ℕ) → Stretch base w.now i (i + 4 * result) at (Words n) values.old (Words (n + 4 * result)) values.new) }
+    ensures { (result ≤ limit) × ((base : ℕ) → Stretch base w.now i (i + 4 * result) at (Some n) values.old (Some (n + 4 * result)) values.new) }
 {
     let first = at + 1 + n / 4;
-    let mut t = 0;
-    while t < limit {
+    for t in 0..limit {
         let j = i + 4 * t;
         let a = w[j];
         let b = w[j + 1];
@@ -111,46 +91,36 @@ fn put_words(values: &mut [u32], at: usize, n: usize, w: &[u8], i: usize, limit:
             return t;
         }
         values[first + t] = word(a, b, c, e);
-        t += 1;
     }
-    t
-}
-
-fn least(a: usize, b: usize) -> usize
-    ensures { (result ≤ a) × (result ≤ b) }
-{
-    if a < b {
-        return a;
-    }
-    b
+    limit
 }
 
 // Plain bytes from byte `i` of `w` on, as many as fill whole words, behind the place of the first word, which is at `at`.
 // Where the bytes so far fill no whole words, and where there is no room, none.
-pub(crate) fn push_plain(values: &mut [u32], at: usize, count: Count, w: &[u8], i: usize) -> Filled
+pub(crate) fn push_plain(
+    values: &mut [u32],
+    at: usize,
+    count: Option<usize>,
+    w: &[u8],
+    i: usize,
+) -> Filled
     requires { i ≤ length w.now }
     ensures { (base : ℕ) → Stretch base w.now i result.next at count values.old result.count values.new }
 {
-    match count {
-        Count::Words(n) => {
-            if n % 4 != 0 {
-                return Filled { count, next: i };
-            }
-            if values.len() <= at {
-                return Filled { count, next: i };
-            }
-            let first = at + 1 + n / 4;
-            if values.len() <= first {
-                return Filled { count, next: i };
-            }
-            let limit = least(values.len() - first, (w.len() - i) / 4);
-            let t = put_words(values, at, n, w, i, limit);
-            let more = Count::Words(n + 4 * t);
-            Filled {
-                count: more,
-                next: i + 4 * t,
-            }
-        }
-        Count::DontFit => Filled { count, next: i },
+    let Some(n) = count else {
+        return Filled { count, next: i };
+    };
+    if n % 4 != 0 || values.len() <= at {
+        return Filled { count, next: i };
+    }
+    let first = at + 1 + n / 4;
+    if values.len() <= first {
+        return Filled { count, next: i };
+    }
+    let limit = (values.len() - first).min((w.len() - i) / 4);
+    let t = put_words(values, at, n, w, i, limit);
+    Filled {
+        count: Some(n + 4 * t),
+        next: i + 4 * t,
     }
 }

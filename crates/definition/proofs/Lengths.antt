@@ -13,9 +13,9 @@ use Rattle.std.proofs.Math.ListN.{length, get_or-append}
 use Rattle.std.proofs.lemmas.List.{length-replicate, replicate-append-replicate, set-append_left, take-append-le}
 use Rattle.std.proofs.lemmas.List.Edits.{sets}
 use Rattle.std.proofs.Math.Seq.{length-sets}
-use Rattle.words.specs.Token.{is_trivia, lex_error}
-use Rattle.words.specs.declared.token.LexError.{LexError}
-use Rattle.words.specs.declared.token.LexError.TheVariants.{Is, Nothing}
+use Rattle.words.specs.ErrorToken.{error_number}
+use Rattle.words.specs.Token.{is_trivia, lex_error, LexError}
+use Rattle.std.specs.Prelude.{Some, None}
 use Rattle.words.specs.Report
 use Rattle.words.specs.Words
 use Rattle.words.specs.Words.{node_width, report_width}
@@ -187,13 +187,13 @@ module _ (more : Memory) where
 
         one : Memory → LexError → Out (Unit {0})
         one n e = elim e [
-          | Nothing ↦ done tt t n
-          | Is error ↦ elim (is_marked s) [ true ↦ done tt t n | false ↦ reported Report.LexerError error (Source.token_span tokens s.cursor.at) t n ]
+          | None ↦ done tt t n
+          | Some error ↦ elim (is_marked s) [ true ↦ done tt t n | false ↦ reported Report.LexerError (error_number error) (Source.token_span tokens s.cursor.at) t n ]
         ]
 
         go : (e : LexError) → Grows (one m e) (one (longer m) e)
-        go Nothing = ran w'
-        go (Is error) = one-of (is_marked s) (ran w') (reported-grows _ _ _ t m w')
+        go None = ran w'
+        go (Some error) = one-of (is_marked s) (ran w') (reported-grows _ _ _ t m w')
 
     skipped-grows : (left : ℕ) → Grow (skipped text tokens left)
     unfolding skipped

@@ -11,9 +11,9 @@ use Rattle.std.proofs.Math.Dec.{ltb, leb}
 use Rattle.std.proofs.Math.ListN.{length, take, get_or-eq_default}
 use Rattle.std.proofs.Math.Seq.{drop-cons, take-take}
 use Rattle.words.specs.Token
-use Rattle.words.specs.Token.{is_trivia, lex_error}
-use Rattle.words.specs.declared.token.LexError.{LexError}
-use Rattle.words.specs.declared.token.LexError.TheVariants.{Is, Nothing}
+use Rattle.words.specs.ErrorToken.{error_number}
+use Rattle.words.specs.Token.{is_trivia, lex_error, LexError}
+use Rattle.std.specs.Prelude.{Some, None}
 use Rattle.words.specs.Report
 use Rattle.words.specs.Answer as Answer
 use Rattle.words.specs.Words.{token_kind, token_end, token_word, node_width, report_width, pack, high}
@@ -197,11 +197,11 @@ module _ (p : ℕ) (text tokens : List ℕ) (end : ℕ) (text' tokens' : List �
       t' = with_cursor (advanced (record { at = s.cursor.at; end = end' })) s
 
       one : LexError → Span → State → Out (Unit {0})
-      one k q u = elim k [ Nothing ↦ done tt u m | Is error ↦ elim (is_marked s) [ true ↦ done tt u m | false ↦ reported Report.LexerError error q u m ] ]
+      one k q u = elim k [ None ↦ done tt u m | Some error ↦ elim (is_marked s) [ true ↦ done tt u m | false ↦ reported Report.LexerError (error_number error) q u m ] ]
 
       go : (k : LexError) → Twin p end' (one k (Source.token_span tokens s.cursor.at) t) (one k (Source.token_span tokens s.cursor.at) (stopping end' t))
-      go Nothing = gives (λ _. refl)
-      go (Is error) = one-of (is_marked s) (gives (λ _. refl)) (reported-twin _ _ _ t m ((advanced-later s m).limit ∙ e))
+      go None = gives (λ _. refl)
+      go (Some error) = one-of (is_marked s) (gives (λ _. refl)) (reported-twin _ _ _ t m ((advanced-later s m).limit ∙ e))
 
   -- Trivia ends where a token below `p` is none, or where both stop.
   skipped-twin : (left left' : ℕ) (s : State) (m : Memory) → Kept s → left ≡ end - s.cursor.at → left' ≡ end' - s.cursor.at → Twin p end' (skipped text tokens left s m) (skipped text' tokens' left' (stopping end' s) m)

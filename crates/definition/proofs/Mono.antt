@@ -5,9 +5,9 @@ use Prim.Native.Nat.{ℕ, zero, suc, ◌+◌, ◌*◌, ◌≤◌}
 use Rattle.std.proofs.Common.{arith, ltb-true, length-set}
 use Rattle.std.proofs.lemmas.List.Edits.{sets}
 use Rattle.std.proofs.Math.Seq.{length-sets}
-use Rattle.words.specs.Token.{is_trivia, lex_error}
-use Rattle.words.specs.declared.token.LexError.{LexError}
-use Rattle.words.specs.declared.token.LexError.TheVariants.{Is, Nothing}
+use Rattle.words.specs.ErrorToken.{error_number}
+use Rattle.words.specs.Token.{is_trivia, lex_error, LexError}
+use Rattle.std.specs.Prelude.{Some, None}
 use Rattle.words.specs.Report
 use Rattle.words.specs.Words
 use Rattle.words.specs.Words.{node_width, report_width}
@@ -191,11 +191,11 @@ module _ (text tokens : List ℕ) where
 
       go : (e : LexError) → After {A = Unit {0}} s m
           (elim e [
-            | Nothing ↦ done tt t m
-            | Is error ↦ elim (is_marked s) [ true ↦ done tt t m | false ↦ reported Report.LexerError error (Source.token_span tokens s.cursor.at) t m ]
+            | None ↦ done tt t m
+            | Some error ↦ elim (is_marked s) [ true ↦ done tt t m | false ↦ reported Report.LexerError (error_number error) (Source.token_span tokens s.cursor.at) t m ]
           ])
-      go Nothing = ran (advanced-later s m)
-      go (Is error) = one-of (is_marked s) (ran (advanced-later s m)) (later-after (advanced-later s m) (reported-later _ _ _ t m))
+      go None = ran (advanced-later s m)
+      go (Some error) = one-of (is_marked s) (ran (advanced-later s m)) (later-after (advanced-later s m) (reported-later _ _ _ t m))
 
   pub skipped-later : (left : ℕ) → Mono (skipped text tokens left)
   unfolding skipped

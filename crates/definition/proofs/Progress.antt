@@ -10,9 +10,9 @@ use native.Mathlib.Omega.{arith}
 use borrow.Author.Tests.{ltb-true, ltb-false, lt-ltb, le-ltb, eqb-true, eq-eqb}
 use Rattle.std.proofs.Math.Dec.{T, eqb, ltb, leb}
 use Rattle.words.specs.Token
-use Rattle.words.specs.Token.{is_trivia, lex_error}
-use Rattle.words.specs.declared.token.LexError.{LexError}
-use Rattle.words.specs.declared.token.LexError.TheVariants.{Is, Nothing}
+use Rattle.words.specs.ErrorToken.{error_number}
+use Rattle.words.specs.Token.{is_trivia, lex_error, LexError}
+use Rattle.std.specs.Prelude.{Some, None}
 use Rattle.words.specs.Report
 use Rattle.words.specs.Words.{node_width, report_width}
 use Rattle.literals.specs.declared.Span.{Span}
@@ -101,11 +101,11 @@ module _ (text tokens : List ℕ) where
 
       go : (e : LexError) → Holds {A = Unit {0}} (λ _ u. u.cursor ≡ advanced s.cursor)
           (elim e [
-            | Nothing ↦ done tt t m
-            | Is error ↦ elim (is_marked s) [ true ↦ done tt t m | false ↦ reported Report.LexerError error (Source.token_span tokens s.cursor.at) t m ]
+            | None ↦ done tt t m
+            | Some error ↦ elim (is_marked s) [ true ↦ done tt t m | false ↦ reported Report.LexerError (error_number error) (Source.token_span tokens s.cursor.at) t m ]
           ])
-      go Nothing = yields refl
-      go (Is error) = one (is_marked s) (λ _. yields refl) (λ _. reported-cursor _ _ _ t m)
+      go None = yields refl
+      go (Some error) = one (is_marked s) (λ _. yields refl) (λ _. reported-cursor _ _ _ t m)
 
   pub advanced-at : (c : Cursor) → c.at < c.end → advanced c ≡ record { at = c.at + 1; end = c.end }
   unfolding advanced

@@ -5,9 +5,9 @@ use Rattle.std.proofs.Math.Bool.{true, false}
 use Prim.Native.Nat.{ℕ, zero, suc, ◌+◌, ◌-◌, ◌*◌, ◌≤◌}
 use Rattle.std.proofs.lemmas.Bool.{eqb-false}
 use Rattle.std.proofs.lemmas.List.Edits.{sets}
-use Rattle.words.specs.Token.{is_trivia, lex_error}
-use Rattle.words.specs.declared.token.LexError.{LexError}
-use Rattle.words.specs.declared.token.LexError.TheVariants.{Is, Nothing}
+use Rattle.words.specs.ErrorToken.{error_number}
+use Rattle.words.specs.Token.{is_trivia, lex_error, LexError}
+use Rattle.std.specs.Prelude.{Some, None}
 use Rattle.words.specs.Report
 use Rattle.words.specs.Refusal
 use Rattle.words.specs.Words.{high, node_width, node_words, report_width, report_kind, report_head}
@@ -142,15 +142,15 @@ module _ (text tokens : List ℕ) where
       t = with_cursor (advanced s.cursor) s
 
       go : (e : LexError) (b : Bool) → Kept {A = Unit {0}} (elim e [
-        | Nothing ↦ done tt t m
-        | Is error ↦ elim b [
+        | None ↦ done tt t m
+        | Some error ↦ elim b [
           | true ↦ done tt t m
-          | false ↦ reported Report.LexerError error (Source.token_span tokens s.cursor.at) t m
+          | false ↦ reported Report.LexerError (error_number error) (Source.token_span tokens s.cursor.at) t m
         ]
       ])
-      go Nothing b = h
-      go (Is error) true = h
-      go (Is error) false = reported-kept Report.LexerError error (Source.token_span tokens s.cursor.at) tt t m h
+      go None b = h
+      go (Some error) true = h
+      go (Some error) false = reported-kept Report.LexerError (error_number error) (Source.token_span tokens s.cursor.at) tt t m h
 
   skipped-kept : (left : ℕ) → Keeps (skipped text tokens left)
   unfolding skipped

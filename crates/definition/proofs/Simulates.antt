@@ -17,9 +17,10 @@ use Rattle.std.proofs.lemmas.List.{length-replicate}
 use Rattle.std.proofs.lemmas.List.Edits.{sets, sets-eq}
 use Rattle.std.proofs.Math.Seq.{length-sets}
 use Rattle.words.specs.Token
-use Rattle.words.specs.Token.{is_trivia, lex_error}
-use Rattle.words.specs.declared.token.LexError.{LexError}
-use Rattle.words.specs.declared.token.LexError.TheVariants.{Is, Nothing}
+use Rattle.words.specs.ErrorToken.{error_number}
+use Rattle.words.specs.declared.error_token.ErrorToken.{ErrorToken}
+use Rattle.words.specs.Token.{is_trivia, lex_error, LexError}
+use Rattle.std.specs.Prelude.{Some, None}
 use Rattle.words.specs.Report
 use Rattle.words.specs.Refusal
 use Rattle.words.specs.Answer as Answer
@@ -248,8 +249,8 @@ module _ (text tokens : List ℕ) (end lent_nodes lent_values : ℕ) where
   -- What stands at the cursor once trivia is skipped.
   data Ready (s : State) (w : World) : Type 0 where
     at-end : end ≤ s.cursor.at → w.row ≡ [] → Ready s w
-    at-good : s.cursor.at < end → lex_error (kind_of_token s.cursor.at) ≡ Nothing → w.row ≡ good s.cursor.at (kind_of_token s.cursor.at) ∷ rest s → Ready s w
-    at-bad : (error : ℕ) → s.cursor.at < end → lex_error (kind_of_token s.cursor.at) ≡ Is error → w.row ≡ bad s.cursor.at (kind_of_token s.cursor.at) ∷ rest s → Ready s w
+    at-good : s.cursor.at < end → lex_error (kind_of_token s.cursor.at) ≡ None → w.row ≡ good s.cursor.at (kind_of_token s.cursor.at) ∷ rest s → Ready s w
+    at-bad : (error : ErrorToken) → s.cursor.at < end → lex_error (kind_of_token s.cursor.at) ≡ Some error → w.row ≡ bad s.cursor.at (kind_of_token s.cursor.at) ∷ rest s → Ready s w
 
   kind-here : (s : State) → s.cursor.end ≡ end → s.cursor.at < end → kind_at text tokens s.cursor ≡ kind_of_token s.cursor.at
   kind-here s e h = kind-inside text tokens s.cursor (omega arith)
@@ -257,12 +258,12 @@ module _ (text tokens : List ℕ) (end lent_nodes lent_values : ℕ) where
   abbrev on : State → State
   on s = with_cursor (advanced s.cursor) s
 
-  passed-quiet : (s : State) (m : Memory) → lex_error (kind_at text tokens s.cursor) ≡ Nothing → passed text tokens s m ≡ done tt (on s) m
+  passed-quiet : (s : State) (m : Memory) → lex_error (kind_at text tokens s.cursor) ≡ None → passed text tokens s m ≡ done tt (on s) m
   unfolding passed
   passed-quiet s m h = rw (h, passed)
 
-  passed-error : (error : ℕ) (s : State) (m : Memory) → lex_error (kind_at text tokens s.cursor) ≡ Is error → s.mark ≡ 0
-      → passed text tokens s m ≡ reported Report.LexerError error (Source.token_span tokens s.cursor.at) (on s) m
+  passed-error : (error : ErrorToken) (s : State) (m : Memory) → lex_error (kind_at text tokens s.cursor) ≡ Some error → s.mark ≡ 0
+      → passed text tokens s m ≡ reported Report.LexerError (error_number error) (Source.token_span tokens s.cursor.at) (on s) m
   unfolding passed
   passed-error error s m h e = rw (h, ne_eqb s.mark (s.cursor.at + 1) (omega arith), passed)
 
@@ -294,7 +295,7 @@ module _ (text tokens : List ℕ) (end lent_nodes lent_values : ℕ) where
   fails-on f (more {a} {t} {n} h) c = raised h (c a t n)
   fails-on f late c = late
 
-  passed-fails : (error : ℕ) (s : State) (m : Memory) → lex_error (kind_at text tokens s.cursor) ≡ Is error → s.mark ≡ 0 → Sim s.reports (passed text tokens s m) fail
+  passed-fails : (error : ErrorToken) (s : State) (m : Memory) → lex_error (kind_at text tokens s.cursor) ≡ Some error → s.mark ≡ 0 → Sim s.reports (passed text tokens s m) fail
   passed-fails error s m h e = rw (passed-error error s m h e) (reported-fails _ _ _ (on s) m)
 
   -- The cursor moved over a token, or stays.
@@ -327,17 +328,17 @@ module _ (text tokens : List ℕ) (end lent_nodes lent_values : ℕ) where
         → w.row ≡ seen b e s.cursor.at (kind_of_token s.cursor.at) (rest s)
         → Sim s.reports (bind (skipped text tokens (suc left) s m) (λ _ t n. k t n)) (bind_a (skip_a end w.row w) (λ _ u. g u))
     unfolding skip_a
-    blank left s m w r l next true Nothing b e q =
+    blank left s m w r l next true None b e q =
         let z = kind-here s r.placed.limit l in
         rw (skipped-trivia left s m (ap is_trivia z ∙ b), passed-quiet s m (ap lex_error z ∙ e), q) (rw (skip-any (rest s) w.at (rest s) w) (rw (skip-any (rest s) (suc s.cursor.at) (rest s) w) at next))
-    blank left s m w r l next true (Is error) b e q =
+    blank left s m w r l next true (Some error) b e q =
         let z = kind-here s r.placed.limit l in
         rw (skipped-trivia left s m (ap is_trivia z ∙ b), q)
         (fails-on (λ _ t n. k t n) (fails-on (λ _ t n. skipped text tokens left t n) (passed-fails error s m (ap lex_error z ∙ e) r.placed.unmarked) (λ _. skipped-later text tokens left)) (λ _. c))
-    blank left s m w r l next false Nothing b e q =
+    blank left s m w r l next false None b e q =
         let z = kind-here s r.placed.limit l in
         rw (skipped-plain left s m (ap is_trivia z ∙ b), q) (h s m (move_to s.cursor.at _ w) (stay-rel s m w _ _ refl (sym q ∙ r.placed.ahead) r) (at-good l e refl))
-    blank left s m w r l next false (Is error) b e q =
+    blank left s m w r l next false (Some error) b e q =
         let z = kind-here s r.placed.limit l in
         rw (skipped-plain left s m (ap is_trivia z ∙ b), q) (h s m (move_to s.cursor.at _ w) (stay-rel s m w _ _ refl (sym q ∙ r.placed.ahead) r) (at-bad error l e refl))
 

@@ -3,9 +3,8 @@
 use Rattle.std.specs.Prelude.{Bool, true, false, cond, ◌&&◌, List, [], ◌∷◌, ◌++◌, ℕ, zero, suc, ◌+◌, pred, eqb, ltb, length, get_or, set}
 use Rattle.std.proofs.Math.Option.{Option}
 use Rattle.words.specs.Token
-use Rattle.words.specs.Token.{is_trivia, lex_error}
-use Rattle.words.specs.declared.token.LexError.{LexError}
-use Rattle.words.specs.declared.token.LexError.TheVariants.{Is, Nothing}
+use Rattle.words.specs.Token.{is_trivia, lex_error, LexError}
+use Rattle.std.specs.Prelude.{Some, None}
 use Rattle.words.specs.Words.{token_kind, node_kind, node_head}
 use Rattle.literals.specs.Spelling as Source
 use Rattle.definition.specs.declared.Mode.{Mode}
@@ -22,10 +21,10 @@ pub data Seen : Type 0 where
   stray : Seen
 
 abbrev pub seen : Bool → LexError → ℕ → ℕ → List Seen → List Seen
-seen true Nothing i k row = row
-seen true (Is error) i k row = stray ∷ row
-seen false Nothing i k row = good i k ∷ row
-seen false (Is error) i k row = bad i k ∷ row
+seen true None i k row = row
+seen true (Some error) i k row = stray ∷ row
+seen false None i k row = good i k ∷ row
+seen false (Some error) i k row = bad i k ∷ row
 
 -- The row of `left` tokens from number `i` on.
 unfoldable pub row_from : List ℕ → ℕ → ℕ → List Seen

@@ -5,8 +5,9 @@ use Rattle.std.specs.Prelude.{Bool, true, false, cond, ◌&&◌, List, ℕ, zero
 use Rattle.std.proofs.Math.Option.{Option}
 use Rattle.std.proofs.lemmas.List.Edits.{sets}
 use Rattle.words.specs.Token
+use Rattle.words.specs.ErrorToken.{error_number}
 use Rattle.words.specs.Token.{is_trivia, lex_error}
-use Rattle.words.specs.declared.token.LexError.TheVariants.{Is, Nothing}
+use Rattle.std.specs.Prelude.{Some, None}
 use Rattle.words.specs.Report
 use Rattle.words.specs.Refusal
 use Rattle.words.specs.Words.{token_kind, node_kind, node_head, node_width, node_words, report_width, report_words}
@@ -212,11 +213,11 @@ module _ (text tokens : List ℕ) where
   passed s m =
       let t = with_cursor (advanced s.cursor) s in
       elim (lex_error (kind_at s.cursor)) [
-        | Nothing ↦ done tt t m
-        | Is error ↦
+        | None ↦ done tt t m
+        | Some error ↦
             elim (is_marked s) [
               | true ↦ done tt t m
-              | false ↦ reported Report.LexerError error (Source.token_span tokens s.cursor.at) t m
+              | false ↦ reported Report.LexerError (error_number error) (Source.token_span tokens s.cursor.at) t m
             ]
       ]
 

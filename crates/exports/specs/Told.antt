@@ -1,11 +1,11 @@
 -- What reading for C and Rust returns and writes.
-use Rattle.std.specs.Prelude.{◌≡◌, List, ℕ, ◌<◌, ◌^◌}
+use Rattle.std.specs.Prelude.{◌≡◌, List, ℕ}
 use Rattle.std.proofs.Common.{sym, ◌∙◌, ap}
-use Rattle.words.specs.Answer.{Answer, refused}
+use Rattle.words.specs.Answer.{Answer}
 use Rattle.codes.specs.Coded.{outcome, counted}
 use Rattle.reader.specs.Read.{Read}
-use Rattle.plank.specs.declared.Outcome.{Outcome}
 use Rattle.plank.specs.Reads
+use Rattle.plank.specs.Reads.{Outcome}
 
 -- The number returned, and the words of tokens, nodes, values, reports and counts, are those of what is read.
 pub record Told (r : Read) (number : ℕ) (tokens nodes values reports lent counts : List ℕ) : Type 0 where
@@ -28,7 +28,3 @@ told {lent = lent} e h n c =
       reports-are = ap (λ (x : Read). x.reports) e;
       counts-are = c ∙ ap (λ (x : Answer). counted x lent) a;
     }
-
--- Where it is a refusal, its place fits 32 bits.
-abbrev pub Placed : Answer → Type 0
-Placed a = (number place : ℕ) → refused number place ≡ a → place < 2 ^ 32

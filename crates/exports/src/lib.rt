@@ -7,19 +7,17 @@ ghost use Rattle.reader.specs.Read.{reads};
 ghost use Rattle.codes.specs.Coded.{coded, viewed, spanned, bounds};
 ghost use Rattle.accessors.specs.Views.{number_view, span_view, count_view};
 ghost use Rattle.plank.specs.Reads.{lent};
-ghost use Rattle.exports.specs.Told.{Told, Placed};
+ghost use Rattle.exports.specs.Told.{Told};
 
 use lexer::Lexed;
-use plank::Outcome;
 
 // The number of tokens, or a refusal's number times 2 to the 32nd and its place.
 fn lexed_code(lexed: Lexed) -> u64
-    requires { Placed (answer lexed) }
     ensures { result ≡ coded (answer lexed) }
 {
     match lexed {
-        Lexed::Tokens(n) => n as u64,
-        Lexed::Refused(number, place) => codes::refusal_code(number, place as u32),
+        Ok(n) => n as u64,
+        Err(refusal) => codes::refusal_code(refusal.number(), refusal.place),
     }
 }
 
@@ -50,11 +48,11 @@ pub fn plank_read(
     ensures { Told (reads text.now (lent tokens.old nodes.old values.old reports.old)) result tokens.new nodes.new values.new reports.new counts.old counts.new }
 {
     match plank::read(text, tokens, nodes, values, reports) {
-        Outcome::Counts(t, n, v, r) => {
-            codes::put_counts(counts, t, n, v, r);
+        Ok(read) => {
+            codes::put_counts(counts, read.tokens, read.nodes, read.values, read.reports);
             0
         }
-        Outcome::Refused(number, place) => codes::refusal_code(number, place),
+        Err(refused) => codes::refusal_code(refused.number(), refused.place),
     }
 }
 

@@ -1,6 +1,6 @@
 // Views of expressions: operands, names, arguments, fields, parameters (ast/expr.rs), on any words and any node number.
 // The answer is the thing, none, or refusal 8 where words that a view looks at were altered.
-#![tactic(auto)]
+#![tactic(auto, unfolding(looking::specs::View::and_then))]
 
 pub mod expressions;
 pub mod functions;

@@ -1,7 +1,7 @@
 // The group of an import: `parse_import_group` and `parse_import_group_item` of parser/mod.rs.
 ghost use Rattle.words.specs.Token;
 ghost use Rattle.literals.specs.Spelling.{span};
-ghost use Rattle.definition.specs.Prog.{Loop, memory};
+ghost use Rattle.definition.specs.Prog.{Loop};
 ghost use Rattle.definition.specs.Tokens.{parse_delimited};
 ghost use Rattle.definition.specs.Declarations.{path_turn, parse_import_group_item, group_item, parse_import_group};
 ghost use Rattle.reading.specs.Does.{Does};
@@ -10,503 +10,172 @@ ghost use Rattle.stream.specs.Delimited.{elements};
 ghost use Rattle.imports.specs.Group.{path_in_group, with_alias, star_in_group, with_item, group_of, Grows, tell_count};
 
 use definition::Unfinished;
-use reading::{Got, Opened, Reading, report};
+use reading::{Parser, report};
 use recovery::list_ends;
 use words::token::RIGHT_CURLY;
 use words::{node, token};
 
-// A group with one item more, or that there is no item.
-#[derive(Clone, Copy)]
-enum Item {
-    Some(Unfinished),
-    None,
-}
-
-#[derive(Clone, Copy)]
-struct Grown {
-    pub at: Reading,
-    pub it: Item,
-}
-
 // A group, and how many items it has.
 #[derive(Clone, Copy)]
 struct Items {
-    pub at: Reading,
     pub node: Unfinished,
     pub count: usize,
 }
 
-// Whether a loop goes on.
-#[derive(Clone, Copy)]
-struct Going {
-    pub at: Reading,
-    pub on: bool,
-}
-
 // One turn of the loop below: whether it goes on.
-fn path_turn(
-    d: u32,
-    s: Reading,
-    text: &[u8],
-    tokens: &[u32],
-    nodes: &mut [u32],
-    values: &mut [u32],
-    reports: &mut [u32],
-) -> Going
-    ensures { Does text.now tokens.now d (path_turn tt) s (memory nodes.old values.old reports.old) (turn_if result.on) result.at (memory nodes.new values.new reports.new) }
+fn path_turn(p: &mut Parser) -> bool
+    ensures { Does (path_turn tt) p.old (turn_if result) p.new }
 {
-    let more = stream::eat(
-        d,
-        s,
-        text,
-        tokens,
-        nodes,
-        values,
-        reports,
-        token::DOUBLE_COLON,
-    );
-    let at = more.at;
-    if more.is {
-        let name = stream::check(
-            d,
-            at,
-            text,
-            tokens,
-            nodes,
-            values,
-            reports,
-            token::IDENTIFIER,
-        );
-        let next = name.at;
-        if name.is {
-            let past = stream::pass(d, next, text, tokens, nodes, values, reports);
-            return Going { on: true, at: past };
-        }
-        return Going {
-            on: false,
-            at: next,
-        };
+    if stream::eat(p, token::DOUBLE_COLON) && stream::check(p, token::IDENTIFIER) {
+        stream::pass(p);
+        return true;
     }
-    Going { on: false, at }
+    false
 }
 
 // The rest of a path is passed.
-fn skip_path(
-    d: u32,
-    s: Reading,
-    text: &[u8],
-    tokens: &[u32],
-    nodes: &mut [u32],
-    values: &mut [u32],
-    reports: &mut [u32],
-) -> Reading
-    ensures { Does text.now tokens.now d (Loop tt path_turn) s (memory nodes.old values.old reports.old) tt result (memory nodes.new values.new reports.new) }
+fn skip_path(p: &mut Parser)
+    ensures { Does (Loop tt path_turn) p.old tt p.new }
 {
-    let mut left = stream::turns_of(tokens);
-    let mut at = s;
-    while 0 < left {
-        if at.refusal != 0 {
-            return at;
+    for _turn in 0..stream::turns_of(p.tokens) {
+        if p.is_refused() {
+            break;
         }
-        left -= 1;
-        let turn = path_turn(d, at, text, tokens, nodes, values, reports);
-        at = turn.at;
-        if !turn.on {
+        if !path_turn(p) {
             break;
         }
     }
-    at
 }
 
 // An item is a name alone; a path is reported at its first name.
-fn path_in_group(
-    d: u32,
-    s: Reading,
-    text: &[u8],
-    tokens: &[u32],
-    nodes: &mut [u32],
-    values: &mut [u32],
-    reports: &mut [u32],
-    start: u32,
-    end: u32,
-) -> Reading
-    ensures { Does text.now tokens.now d (path_in_group (span start end)) s (memory nodes.old values.old reports.old) tt result (memory nodes.new values.new reports.new) }
+fn path_in_group(p: &mut Parser, start: u32, end: u32)
+    ensures { Does (path_in_group (span start end)) p.old tt p.new }
 {
-    let path = stream::check(
-        d,
-        s,
-        text,
-        tokens,
-        nodes,
-        values,
-        reports,
-        token::DOUBLE_COLON,
-    );
-    let at = path.at;
-    if path.is {
-        let past = skip_path(d, at, text, tokens, nodes, values, reports);
-        return report::emit(
-            d,
-            past,
-            text,
-            tokens,
-            nodes,
-            values,
-            reports,
-            words::report::PATH_IN_GROUP,
-            0,
-            start,
-            end,
-        );
+    if stream::check(p, token::DOUBLE_COLON) {
+        skip_path(p);
+        report::emit(p, words::report::PATH_IN_GROUP, 0, start, end);
     }
-    at
 }
 
 // An item's other name, where it has one.
-fn push_alias(
-    d: u32,
-    s: Reading,
-    text: &[u8],
-    tokens: &[u32],
-    nodes: &mut [u32],
-    values: &mut [u32],
-    reports: &mut [u32],
-    item: Unfinished,
-) -> Opened
-    ensures { Does text.now tokens.now d (with_alias item) s (memory nodes.old values.old reports.old) result.it result.at (memory nodes.new values.new reports.new) }
+fn push_alias(p: &mut Parser, item: Unfinished) -> Unfinished
+    ensures { Does (with_alias item) p.old result p.new }
 {
-    let eaten = stream::eat(d, s, text, tokens, nodes, values, reports, token::AS);
-    let at = eaten.at;
-    if eaten.is {
-        let alias = names::expect_ident(d, at, text, tokens, nodes, values, reports);
-        return cst::push_child(
-            d, alias.at, text, tokens, nodes, values, reports, item, alias.it,
-        );
+    if stream::eat(p, token::AS) {
+        let alias = names::expect_ident(p);
+        return cst::push_child(p, item, alias);
     }
-    Opened { it: item, at }
+    item
 }
 
-fn parse_import_group_item(
-    d: u32,
-    s: Reading,
-    text: &[u8],
-    tokens: &[u32],
-    nodes: &mut [u32],
-    values: &mut [u32],
-    reports: &mut [u32],
-) -> Got
-    ensures { Does text.now tokens.now d parse_import_group_item s (memory nodes.old values.old reports.old) result.it result.at (memory nodes.new values.new reports.new) }
+fn parse_import_group_item(p: &mut Parser) -> u32
+    ensures { Does parse_import_group_item p.old result p.new }
 {
-    let item = cst::open_here(
-        d,
-        s,
-        text,
-        tokens,
-        nodes,
-        values,
-        reports,
-        node::IMPORT_GROUP_ITEM,
-        0,
-    );
-    let it = item.it;
-    let name = names::expect_ident(d, item.at, text, tokens, nodes, values, reports);
-    let at = name.at;
-    let state = at.state;
-    let cursor = state.cursor;
-    let start = stream::before_start(tokens, cursor.at);
-    let end = stream::token_start(tokens, cursor.at);
-    let named = cst::push_child(d, at, text, tokens, nodes, values, reports, it, name.it);
-    let told = path_in_group(
-        d, named.at, text, tokens, nodes, values, reports, start, end,
-    );
-    let whole = push_alias(d, told, text, tokens, nodes, values, reports, named.it);
-    cst::close_node(d, whole.at, text, tokens, nodes, values, reports, whole.it)
+    let item = cst::open_here(p, node::IMPORT_GROUP_ITEM, 0);
+    let name = names::expect_ident(p);
+    let i = p.state.cursor.at;
+    let start = stream::before_start(p.tokens, i);
+    let end = stream::token_start(p.tokens, i);
+    let named = cst::push_child(p, item, name);
+    path_in_group(p, start, end);
+    let whole = push_alias(p, named);
+    cst::close_node(p, whole)
 }
 
 // A star, which a group may not have, is reported.
-fn star_in_group(
-    d: u32,
-    s: Reading,
-    text: &[u8],
-    tokens: &[u32],
-    nodes: &mut [u32],
-    values: &mut [u32],
-    reports: &mut [u32],
-) -> Reading
-    ensures { Does text.now tokens.now d star_in_group s (memory nodes.old values.old reports.old) tt result (memory nodes.new values.new reports.new) }
+fn star_in_group(p: &mut Parser)
+    ensures { Does star_in_group p.old tt p.new }
 {
-    let state = s.state;
-    let cursor = state.cursor;
-    let start = stream::before_start(tokens, cursor.at);
-    let end = stream::token_start(tokens, cursor.at);
-    report::emit(
-        d,
-        s,
-        text,
-        tokens,
-        nodes,
-        values,
-        reports,
-        words::report::STAR_IN_GROUP,
-        0,
-        start,
-        end,
-    )
+    let i = p.state.cursor.at;
+    let start = stream::before_start(p.tokens, i);
+    let end = stream::token_start(p.tokens, i);
+    report::emit(p, words::report::STAR_IN_GROUP, 0, start, end);
 }
 
 // A group with the item that comes next.
-fn push_item(
-    d: u32,
-    s: Reading,
-    text: &[u8],
-    tokens: &[u32],
-    nodes: &mut [u32],
-    values: &mut [u32],
-    reports: &mut [u32],
-    group: Unfinished,
-) -> Opened
-    ensures { Does text.now tokens.now d (with_item group) s (memory nodes.old values.old reports.old) result.it result.at (memory nodes.new values.new reports.new) }
+fn push_item(p: &mut Parser, group: Unfinished) -> Unfinished
+    ensures { Does (with_item group) p.old result p.new }
 {
-    let item = parse_import_group_item(d, s, text, tokens, nodes, values, reports);
-    cst::push_child(
-        d, item.at, text, tokens, nodes, values, reports, group, item.it,
-    )
+    let item = parse_import_group_item(p);
+    cst::push_child(p, group, item)
 }
 
-// An item where there is one; a star counts as one.
-fn group_item(
-    d: u32,
-    s: Reading,
-    text: &[u8],
-    tokens: &[u32],
-    nodes: &mut [u32],
-    values: &mut [u32],
-    reports: &mut [u32],
-    group: Unfinished,
-) -> Grown
-    ensures { Grows text.now tokens.now d group s (memory nodes.old values.old reports.old) result.it result.at (memory nodes.new values.new reports.new) }
+// A group with one item more, where there is one; a star counts as one.
+fn group_item(p: &mut Parser, group: Unfinished) -> Option<Unfinished>
+    ensures { Grows group p.old result p.new }
 {
-    let star = stream::eat(d, s, text, tokens, nodes, values, reports, token::STAR);
-    let at = star.at;
-    if star.is {
-        let told = star_in_group(d, at, text, tokens, nodes, values, reports);
-        return Grown {
-            it: Item::Some(group),
-            at: told,
-        };
+    if stream::eat(p, token::STAR) {
+        star_in_group(p);
+        return Some(group);
     }
-    let name = stream::check(
-        d,
-        at,
-        text,
-        tokens,
-        nodes,
-        values,
-        reports,
-        token::IDENTIFIER,
-    );
-    let next = name.at;
-    if name.is {
-        let pushed = push_item(d, next, text, tokens, nodes, values, reports, group);
-        let longer = pushed.it;
-        let past = pushed.at;
-        return Grown {
-            it: Item::Some(longer),
-            at: past,
-        };
+    if stream::check(p, token::IDENTIFIER) {
+        return Some(push_item(p, group));
     }
-    Grown {
-        it: Item::None,
-        at: next,
-    }
+    None
 }
 
 // The items, without the braces around them.
-fn group_items(
-    d: u32,
-    s: Reading,
-    text: &[u8],
-    tokens: &[u32],
-    nodes: &mut [u32],
-    values: &mut [u32],
-    reports: &mut [u32],
-    group: Unfinished,
-) -> Items
-    ensures { Does text.now tokens.now d (elements Token.RightCurly Token.Comma group_item (group_of group 0)) s (memory nodes.old values.old reports.old) (group_of result.node result.count) result.at (memory nodes.new values.new reports.new) }
+fn group_items(p: &mut Parser, group: Unfinished) -> Items
+    ensures { Does (elements Token.RightCurly Token.Comma group_item (group_of group 0)) p.old (group_of result.node result.count) p.new }
 {
-    let mut left = stream::turns_of(tokens);
     let mut node = group;
     let mut count = 0;
     let mut emitted = false;
-    let mut at = s;
-    while 0 < left {
-        if at.refusal != 0 {
-            return Items { node, count, at };
+    for _turn in 0..stream::turns_of(p.tokens) {
+        if p.is_refused() {
+            break;
         }
-        left -= 1;
-        let found = group_item(d, at, text, tokens, nodes, values, reports, node);
-        let it = found.it;
-        at = found.at;
-        match it {
-            Item::Some(next) => {
-                let more = stream::eat(d, at, text, tokens, nodes, values, reports, token::COMMA);
-                at = more.at;
+        match group_item(p, node) {
+            Some(next) => {
                 node = next;
                 count += 1;
                 emitted = false;
-                if !more.is {
+                if !stream::eat(p, token::COMMA) {
                     break;
                 }
             }
-            Item::None => {
-                let ended = list_ends(d, at, text, tokens, nodes, values, reports, RIGHT_CURLY);
-                at = ended.at;
-                if ended.is {
+            None => {
+                if list_ends(p, RIGHT_CURLY) {
                     break;
                 }
-                at = recovery::pass_unexpected(
-                    d, at, text, tokens, nodes, values, reports, emitted,
-                );
+                recovery::pass_unexpected(p, emitted);
                 emitted = true;
             }
         }
     }
-    Items { node, count, at }
+    Items { node, count }
 }
 
 // The items with their braces.
-fn braced_items(
-    d: u32,
-    s: Reading,
-    text: &[u8],
-    tokens: &[u32],
-    nodes: &mut [u32],
-    values: &mut [u32],
-    reports: &mut [u32],
-    group: Unfinished,
-) -> Items
-    ensures { Does text.now tokens.now d (parse_delimited Token.LeftCurly Token.RightCurly Token.Comma group_item (group_of group 0)) s (memory nodes.old values.old reports.old) (group_of result.node result.count) result.at (memory nodes.new values.new reports.new) }
+fn braced_items(p: &mut Parser, group: Unfinished) -> Items
+    ensures { Does (parse_delimited Token.LeftCurly Token.RightCurly Token.Comma group_item (group_of group 0)) p.old (group_of result.node result.count) p.new }
 {
-    let opened = stream::expect(
-        d,
-        s,
-        text,
-        tokens,
-        nodes,
-        values,
-        reports,
-        token::LEFT_CURLY,
-    );
-    let items = group_items(d, opened.at, text, tokens, nodes, values, reports, group);
-    let closed = stream::expect(
-        d,
-        items.at,
-        text,
-        tokens,
-        nodes,
-        values,
-        reports,
-        token::RIGHT_CURLY,
-    );
-    let node = items.node;
-    let at = closed.at;
-    Items {
-        node,
-        count: items.count,
-        at,
-    }
+    stream::expect(p, token::LEFT_CURLY);
+    let items = group_items(p, group);
+    stream::expect(p, token::RIGHT_CURLY);
+    items
 }
 
 // A group has more than one item; another is reported at its brace.
-fn tell_count(
-    d: u32,
-    s: Reading,
-    text: &[u8],
-    tokens: &[u32],
-    nodes: &mut [u32],
-    values: &mut [u32],
-    reports: &mut [u32],
-    count: usize,
-    start: u32,
-    end: u32,
-) -> Reading
-    ensures { Does text.now tokens.now d (tell_count count (span start end)) s (memory nodes.old values.old reports.old) tt result (memory nodes.new values.new reports.new) }
+fn tell_count(p: &mut Parser, count: usize, start: u32, end: u32)
+    ensures { Does (tell_count count (span start end)) p.old tt p.new }
 {
-    if count == 0 {
-        return report::emit(
-            d,
-            s,
-            text,
-            tokens,
-            nodes,
-            values,
-            reports,
-            words::report::EMPTY_GROUP,
-            0,
-            start,
-            end,
-        );
+    match count {
+        0 => report::emit(p, words::report::EMPTY_GROUP, 0, start, end),
+        1 => report::emit(p, words::report::NEEDLESS_BRACES, 0, start, end),
+        _ => {}
     }
-    if count == 1 {
-        return report::emit(
-            d,
-            s,
-            text,
-            tokens,
-            nodes,
-            values,
-            reports,
-            words::report::NEEDLESS_BRACES,
-            0,
-            start,
-            end,
-        );
-    }
-    s
 }
 
-pub(crate) fn parse_import_group(
-    d: u32,
-    s: Reading,
-    text: &[u8],
-    tokens: &[u32],
-    nodes: &mut [u32],
-    values: &mut [u32],
-    reports: &mut [u32],
-    group: Unfinished,
-) -> Got
-    ensures { Does text.now tokens.now d (parse_import_group group) s (memory nodes.old values.old reports.old) result.it result.at (memory nodes.new values.new reports.new) }
+pub(crate) fn parse_import_group(p: &mut Parser, group: Unfinished) -> u32
+    ensures { Does (parse_import_group group) p.old result p.new }
 {
-    let brace = stream::peek(d, s, text, tokens, nodes, values, reports);
-    let at = brace.at;
-    let state = at.state;
-    let cursor = state.cursor;
-    let start = stream::token_start(tokens, cursor.at);
-    let end = stream::token_end(tokens, cursor.at);
-    let items = braced_items(d, at, text, tokens, nodes, values, reports, group);
-    let told = tell_count(
-        d,
-        items.at,
-        text,
-        tokens,
-        nodes,
-        values,
-        reports,
-        items.count,
-        start,
-        end,
-    );
-    let closed = stream::expect(
-        d,
-        told,
-        text,
-        tokens,
-        nodes,
-        values,
-        reports,
-        token::SEMICOLON,
-    );
-    cst::close_node(
-        d, closed.at, text, tokens, nodes, values, reports, items.node,
-    )
+    stream::peek(p);
+    let i = p.state.cursor.at;
+    let start = stream::token_start(p.tokens, i);
+    let end = stream::token_end(p.tokens, i);
+    let items = braced_items(p, group);
+    tell_count(p, items.count, start, end);
+    stream::expect(p, token::SEMICOLON);
+    cst::close_node(p, items.node)
 }

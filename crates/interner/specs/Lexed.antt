@@ -13,7 +13,7 @@ use Rattle.words.specs.Words.{token_word, token_kind, token_end}
 use Rattle.words.specs.Laws.{high-pack, low-pack}
 use Rattle.utf8.specs.Utf8.{character_at}
 use Rattle.utf8.specs.declared.Character.{Character}
-use Rattle.utf8.specs.declared.Character.TheVariants.{Is, Nothing}
+use Rattle.std.specs.Prelude.{Option, Some, None}
 use Rattle.scan.specs.Bytes.{lower, upper, digit, is_digit, ident_start, ident_part}
 use Rattle.scan.specs.Lexer.{Lexeme, lexeme, more, plain, line_comment, block_comment, number, string, Rule, regex, run, classed, matched, callback, Match, longest, Fixed, rule, punctuation, keywords, others, rules, invalid_char, no_match, finish, token_at, tokens_from, mark, has_mark, tokens_of, word}
 use Rattle.scan.specs.Fits.{token-fits, spelled-within}
@@ -177,9 +177,9 @@ module _ (s : List ℕ) where
   unfolding invalid_char
   invalid-quiet = go (character_at s)
     where
-      go : (c : Character) → Quiet (elim c [ Is c n ↦ lexeme TokenKind.InvalidCharError n | Nothing ↦ lexeme TokenKind.InvalidCharError 1 ])
-      go (Is c n) = (omega arith, refl)
-      go Nothing = (omega arith, refl)
+      go : (c : Option Character) → Quiet (elim c [ Some c ↦ lexeme TokenKind.InvalidCharError c.length | None ↦ lexeme TokenKind.InvalidCharError 1 ])
+      go (Some c) = (omega arith, refl)
+      go None = (omega arith, refl)
 
   token-named : Named s (token_at s)
   unfolding token_at

@@ -2,7 +2,7 @@
 // first to be spelled so, and a table made in one pass spares it a look at all tokens for each.
 #![tactic(auto)]
 
-ghost use Rattle.std.specs.Prelude.{◌≡◌, true, false, ◌&&◌, ◌≤◌, length, take};
+ghost use Rattle.std.specs.Prelude.{◌≡◌, true, false, ◌&&◌, length};
 ghost use Rattle.reading.specs.Source.{is_told, first_of};
 ghost use Rattle.interner.specs.Same.{all_inside};
 ghost use Rattle.interner.specs.Order.{names_rise};
@@ -20,19 +20,15 @@ pub const SHORT_TEXT: usize = 8192;
 pub const SHORT_SOURCE_BYTES: usize = 73728;
 
 // Whether there is a table, and token `i` is a name of this kind.
+#[tactic(auto, using(std::proofs::lemmas::Bool::Decides::nat_tests), unfolding(reading::specs::Source::is_told))]
 fn told(source: &[u8], tokens: &[u32], kind: u32, i: usize) -> bool
     ensures { result ≡ is_told source.now tokens.now kind i }
 {
-    if source.len() <= table::START {
-        return false;
-    }
-    if table::is_name(kind) {
-        return spellings::kind_at(tokens, i) == kind;
-    }
-    false
+    table::START < source.len() && table::is_name(kind) && spellings::kind_at(tokens, i) == kind
 }
 
 // The first token of a kind that is spelled as token `i`: from the table, or found by looking at all tokens.
+#[tactic(auto, unfolding(reading::specs::Source::first_of))]
 pub fn first_of(source: &[u8], tokens: &[u32], kind: u32, i: u32) -> usize
     ensures { result ≡ first_of source.now tokens.now kind i }
 {
@@ -48,9 +44,8 @@ pub fn first_of(source: &[u8], tokens: &[u32], kind: u32, i: u32) -> usize
 fn in_order(tokens: &[u32], n: usize) -> bool
     ensures { result ≡ (all_inside tokens.now n && names_rise tokens.now) }
 {
-    let mut i = 0;
     let mut last = 0;
-    while i < tokens.len() {
+    for i in 0..tokens.len() {
         let end = words::token_end(tokens[i]) as usize;
         if n < end {
             return false;
@@ -65,21 +60,8 @@ fn in_order(tokens: &[u32], n: usize) -> bool
             }
             last = slot;
         }
-        i += 1;
     }
     true
-}
-
-// The source begins with the text.
-fn copy(text: &[u8], source: &mut [u8])
-    requires { length text.now ≤ length source.old }
-    ensures { take (length text.now) source.new ≡ text.now }
-{
-    let mut i = 0;
-    while i < text.len() {
-        source[i] = text[i];
-        i += 1;
-    }
 }
 
 // The source of a text and its tokens: the text, and the table of its names. It answers false, and leaves what it was lent, where the
@@ -94,7 +76,7 @@ pub fn annotate(text: &[u8], tokens: &[u32], source: &mut [u8]) -> bool
         return false;
     }
     if in_order(tokens, text.len()) {
-        copy(text, source);
+        source[..text.len()].copy_from_slice(text);
         trees::tell(text, tokens, source);
         return true;
     }

@@ -8,13 +8,11 @@ use words::token;
 // No text has more bytes, so the table begins there.
 pub(crate) const START: usize = 65536;
 
+#[tactic(auto, using(std::proofs::lemmas::Bool::Decides::nat_tests))]
 pub(crate) fn is_name(kind: u32) -> bool
     ensures { result ≡ is_name kind }
 {
-    if kind == token::IDENTIFIER {
-        return true;
-    }
-    kind == token::BUILTIN_NAME
+    matches!(kind, token::IDENTIFIER | token::BUILTIN_NAME)
 }
 
 // The place of token `i` in the table; past the words stands an Eof that ends at 0.
@@ -27,18 +25,12 @@ pub(crate) fn slot_at(tokens: &[u32], i: usize) -> usize
     (words::token_end(tokens[i]) as usize + 1) / 2
 }
 
-pub(crate) fn wide(b: u8) -> usize
-    ensures { (result ≡ b) × (result < 256) }
-{
-    b as usize
-}
-
 // A byte of the source, or of a name; past its end 0.
 pub(crate) fn byte(source: &[u8], n: usize) -> usize
     ensures { (result ≡ get_or source.now n 0) × (result < 256) }
 {
     if n < source.len() {
-        return wide(source[n]);
+        return source[n] as usize;
     }
     0
 }
@@ -53,6 +45,7 @@ pub(crate) fn get(source: &[u8], slot: usize) -> usize
 }
 
 // The table is told of the name at a place.
+#[tactic(auto, unfolding(crate::specs::Table::written))]
 pub(crate) fn put(source: &mut [u8], slot: usize, first: usize)
     requires { (table_start + 2 * slot ≤ length source.old) × (slot ≤ 32768) × (first < 65536) }
     ensures { source.new ≡ written source.old slot first }

@@ -6,16 +6,18 @@ use borrow.Author.Tests.{ltb-false, lt-ltb, le-ltb, le-leb, lt-leb}
 use Rattle.std.proofs.lemmas.List.{length-map}
 use Rattle.std.proofs.lemmas.List.Edits.{sets, sets-eq}
 use Rattle.std.proofs.Math.Seq.{length-sets}
+use Rattle.std.specs.Prelude.{Ok, Err}
+use Rattle.std.specs.Result.{result_unwrap_or}
 use Rattle.words.specs.Refusal
+use Rattle.words.specs.Refusal.{number}
+use Rattle.words.specs.declared.refusal.Refused.{Refused}
 use Rattle.words.specs.Answer.{Answer, done, refused}
 use Rattle.words.specs.Words.{token_end}
-use Rattle.utf8.specs.Utf8.{checked}
+use Rattle.utf8.specs.Utf8.{Checked, checked}
 use Rattle.utf8.specs.Laws.{bad-offset}
-use Rattle.utf8.specs.declared.Way.{Way}
-use Rattle.utf8.specs.declared.Checked.{Checked}
-use Rattle.utf8.specs.declared.Checked.TheVariants.{Good, Bad}
+use Rattle.utf8.specs.declared.NotUtf8.{NotUtf8}
 use Rattle.scan.specs.Lexer.{longest_text, tokens_of, word}
-use Rattle.lexer.specs.Lex.{not_utf8, lexed, lexed_words, start_of, covers, spelling_of, spelling_start, Begins}
+use Rattle.lexer.specs.Lex.{Lexed, answer, not_utf8, lexed, lexed_words, start_of, covers, spelling_of, spelling_start, Begins}
 use Rattle.lexer.specs.Walk.{cleared, tokens-count}
 
 pub cleared-all : (ws : List ℕ) → cleared ws 0 ≡ replicate (length ws) 0
@@ -30,7 +32,7 @@ stored vs ws n e h =
     ∙ ap (λ (x : List ℕ). x ++ replicate (length ws - n) 0) (ap (take n) s ∙ take_at vs _ n e)
 
 -- A refusal leaves 0 in every word.
-refused-words : (text : List ℕ) (lent number place : ℕ) → lexed text lent ≡ refused number place → lexed_words text lent ≡ replicate lent 0
+pub refused-words : (text : List ℕ) (lent number place : ℕ) → lexed text lent ≡ refused number place → lexed_words text lent ≡ replicate lent 0
 unfolding lexed_words
 refused-words text lent number place e = rw e
 
@@ -39,51 +41,50 @@ done-words : (text : List ℕ) (lent : ℕ) (counts : List ℕ) → lexed text l
 unfolding lexed_words
 done-words text lent counts e = rw e
 
-pub record Left (text ws out : List ℕ) (a : Answer) : Type 0 where
-  pub answered : a ≡ lexed text (length ws)
-  pub words : out ≡ lexed_words text (length ws)
+-- What is counted, before the rest is cleared.
+pub record Counted (text lent out : List ℕ) (r : Lexed) : Type 0 where
+  pub answered : answer r ≡ lexed text (length lent)
+  pub words : (n : ℕ) → r ≡ Ok n → (length (tokens_of text) ≡ n) × (n ≤ length lent) × (out ≡ sets lent 0 (map word (tokens_of text)))
 
-module _ (text ws : List ℕ) where
+module _ (text ws out : List ℕ) where
   abbrev lent : ℕ
   lent = length ws
 
-  refusal : (number place : ℕ) (ws' out : List ℕ) → lexed text lent ≡ refused number place → length ws' ≡ lent → out ≡ cleared ws' 0
-      → Left text ws out (refused number place)
-  refusal number place ws' out e l o =
-      record { answered = sym e; words = o ∙ (cleared-all ws' ∙ (ap (λ (n : ℕ). replicate n 0) l ∙ sym (refused-words text lent number place e))) }
+  refusal : (r : Refused) → refused (number r.refusal) r.place ≡ lexed text lent → Counted text ws out (Err r)
+  refusal r e = record { answered = e; words = λ n f. absurd (let z : ◌≡◌ {A = ℕ} 0 1 = cc in omega arith) }
 
-  pub too_long : (out : List ℕ) → longest_text < length text → out ≡ cleared ws 0 → Left text ws out (refused Refusal.TooLong longest_text)
-  too_long out h o = refusal _ _ ws out long refl o
-    where
-      long : lexed text lent ≡ refused Refusal.TooLong longest_text
-      long = unfold lexed in (rw (lt-ltb longest_text (length text) h))
+  pub too_long : (r : Refused) → longest_text < length text → ((number r.refusal) ≡ Refusal.TooLong) × (r.place ≡ longest_text) → Counted text ws out (Err r)
+  unfolding lexed
+  too_long r h (en, ep) = refusal r (rw (lt-ltb longest_text (length text) h, en, ep))
 
   module _ (h : length text ≤ longest_text) where
-    pub not-utf8 : (w : Way) (at number : ℕ) (out : List ℕ) → checked text ≡ Bad w at → number ≡ not_utf8 w → out ≡ cleared ws 0
-        → Left text ws out (refused number at)
-    not-utf8 w at number out e f o = rw f (refusal _ _ ws out bad refl o)
-      where
-        bad : lexed text lent ≡ refused (not_utf8 w) at
-        bad = unfold lexed in (rw (le-ltb longest_text (length text) h, e))
+    pub not-utf8 : (e : NotUtf8) (r : Refused) → checked text ≡ Err e → ((number r.refusal) ≡ not_utf8 e.way) × (r.place ≡ e.at) → Counted text ws out (Err r)
+    unfolding lexed
+    not-utf8 e r g (en, ep) = refusal r (rw (le-ltb longest_text (length text) h, g, en, ep))
 
-    pub no_room : (n : ℕ) (ws' out : List ℕ) → checked text ≡ Good → n ≡ length (tokens_of text) → length ws' ≡ lent → length ws' < n
-        → out ≡ cleared ws' 0 → Left text ws out (refused Refusal.TokensDontFit n)
-    no_room n ws' out e en l g o = rw en (refusal _ _ ws' out full l o)
-      where
-        full : lexed text lent ≡ refused Refusal.TokensDontFit (length (tokens_of text))
-        full = unfold lexed in (rw (le-ltb longest_text (length text) h, e, lt-ltb lent (length (tokens_of text)) (omega arith)))
+    module _ (g : checked text ≡ Ok tt) (n : ℕ) (en : n ≡ length (tokens_of text)) where
+      pub no_room : (r : Refused) → lent < n → ((number r.refusal) ≡ Refusal.TokensDontFit) × (r.place ≡ n) → Counted text ws out (Err r)
+      unfolding lexed
+      no_room r f (er, ep) = refusal r (rw (le-ltb longest_text (length text) h, g, lt-ltb lent (length (tokens_of text)) (omega arith), er, ep, en))
 
-    pub room : (n : ℕ) (ws' out : List ℕ) → checked text ≡ Good → n ≡ length (tokens_of text) → ws' ≡ sets ws 0 (map word (tokens_of text)) → length ws' ≡ lent → n ≤ length ws'
-        → out ≡ cleared ws' n → Left text ws out (done (n ∷ []))
-    room n ws' out e en es k g o =
-        let vs = map word (tokens_of text) in
-        let l : length vs ≡ n = length-map (tokens_of text) word ∙ sym en in
-        let a : out ≡ vs ++ replicate (lent - n) 0 = o ∙ (ap (λ (x : List ℕ). cleared x n) es ∙ stored vs ws n l (omega arith)) in
-        let b : vs ++ replicate (lent - n) 0 ≡ lexed_words text lent = ap (λ (k : ℕ). vs ++ replicate (lent - k) 0) (sym l) ∙ sym (done-words text lent _ fits) in
-        record { answered = sym fits; words = a ∙ b }
-      where
-        fits : lexed text lent ≡ done (n ∷ [])
-        fits = unfold lexed in (rw (le-ltb longest_text (length text) h, e, ← en, le-ltb lent n (omega arith)))
+      pub room : n ≤ lent → out ≡ sets ws 0 (map word (tokens_of text)) → Counted text ws out (Ok n)
+      unfolding lexed
+      room f o =
+          record {
+            answered = rw (le-ltb longest_text (length text) h, g, ← en, le-ltb lent n f);
+            words = λ m e. let k : n ≡ m = cc in (sym en ∙ k, omega arith, o);
+          }
+
+-- The words that are left once the rest is cleared.
+pub left-words : (text ws ws' : List ℕ) (r : Lexed) → length ws' ≡ length ws → Counted text ws ws' r → cleared ws' (result_unwrap_or r 0) ≡ lexed_words text (length ws)
+left-words text ws ws' (Err r) k c =
+    cleared-all ws' ∙ (ap (λ (n : ℕ). replicate n 0) k ∙ sym (refused-words text (length ws) (number r.refusal) r.place (sym c.answered)))
+left-words text ws ws' (Ok n) k c =
+    let (e, f, o) = c.words n refl in
+    let vs = map word (tokens_of text) in
+    let l : length vs ≡ n = length-map (tokens_of text) word ∙ e in
+    ap (λ (x : List ℕ). cleared x n) o ∙ (stored vs ws n l f
+    ∙ (ap (λ (j : ℕ). vs ++ replicate (length ws - j) 0) (sym l) ∙ sym (done-words text (length ws) (n ∷ []) (sym c.answered))))
 
 -- Whether a token covers a part of the text, by the tests in turn.
 module _ (text tokens : List ℕ) (n : ℕ) where
@@ -134,12 +135,12 @@ lexed-small text lent = long (ltb longest_text (length text)) refl
     fit false h = let f = tokens-count text in counted {n = length (tokens_of text)} (omega arith)
 
     good : (c : Checked) → checked text ≡ c → length text ≤ longest_text
-        → Small (elim c [ Bad way at ↦ refused (not_utf8 way) at | Good ↦ cond (ltb lent (length (tokens_of text))) (refused Refusal.TokensDontFit (length (tokens_of text))) (done (length (tokens_of text) ∷ [])) ])
-    good Good e h = fit (ltb lent (length (tokens_of text))) h
-    good (Bad w o) e h = let f = bad-offset text w o e in placed {place = o} (omega arith)
+        → Small (elim c [ Err e ↦ refused (not_utf8 e.way) e.at | Ok u ↦ cond (ltb lent (length (tokens_of text))) (refused Refusal.TokensDontFit (length (tokens_of text))) (done (length (tokens_of text) ∷ [])) ])
+    good (Ok u) e h = fit (ltb lent (length (tokens_of text))) h
+    good (Err r) e h = let f = bad-offset text r e in placed {place = r.at} (omega arith)
 
     long : (t : Bool) → ltb longest_text (length text) ≡ t
-        → Small (cond t (refused Refusal.TooLong longest_text) (elim (checked text) [ Bad way at ↦ refused (not_utf8 way) at | Good ↦ cond (ltb lent (length (tokens_of text))) (refused Refusal.TokensDontFit (length (tokens_of text))) (done (length (tokens_of text) ∷ [])) ]))
+        → Small (cond t (refused Refusal.TooLong longest_text) (elim (checked text) [ Err e ↦ refused (not_utf8 e.way) e.at | Ok u ↦ cond (ltb lent (length (tokens_of text))) (refused Refusal.TokensDontFit (length (tokens_of text))) (done (length (tokens_of text) ∷ [])) ]))
     long true e = placed {place = longest_text} (omega arith)
     long false e = good (checked text) refl (ltb-false longest_text (length text) e)
 

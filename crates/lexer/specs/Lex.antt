@@ -1,14 +1,14 @@
 -- What the public calls answer and leave, from document 01.
 use Rattle.std.specs.Prelude.{◌≡◌, List, [], ◌∷◌, map, Bool, cond, ◌&&◌, ℕ, zero, suc, ◌+◌, ◌-◌, ltb, leb, length, get_or, take, drop}
+use Rattle.std.specs.Prelude.{Ok, Err, Result}
 use Rattle.words.specs.Refusal
+use Rattle.words.specs.Refusal.{number}
+use Rattle.words.specs.declared.refusal.Refused.{Refused}
 use Rattle.words.specs.Words.{token_end}
 use Rattle.words.specs.Answer.{Answer, done, refused, left}
 use Rattle.utf8.specs.Utf8.{checked}
 use Rattle.utf8.specs.declared.Way.{Way}
 use Rattle.utf8.specs.declared.Way.TheVariants.{NoStart, NotAllowed, Cut}
-use Rattle.utf8.specs.declared.Checked.TheVariants.{Good, Bad}
-use Rattle.lexer.specs.declared.Lexed.{Lexed}
-use Rattle.lexer.specs.declared.Lexed.TheVariants.{Tokens, Refused}
 use Rattle.scan.specs.Lexer.{longest_text, tokens_of, word}
 
 -- "Refusal 1 keeps a byte that starts no sequence (RFC 3629)." "It refuses with 9 where a later byte of a sequence isn't allowed, and with 10 where
@@ -19,9 +19,12 @@ not_utf8 NotAllowed = Refusal.NotUtf8Later
 not_utf8 Cut = Refusal.NotUtf8Cut
 
 -- The number and values that document 01 has for an answer.
+abbrev pub Lexed : Type 0
+Lexed = Result ℕ Refused
+
 abbrev pub answer : Lexed → Answer
-answer (Tokens n) = done (n ∷ [])
-answer (Refused number place) = refused number place
+answer (Ok n) = done (n ∷ [])
+answer (Err r) = refused (number r.refusal) r.place
 
 -- "Order: 2, 1, 4." "Lexing alone gives only 2, 1, 4." "01's order treats all three as it treated 1" (01, W1).
 -- "2 over 65,536 bytes (65,536)", "1 not UTF-8 (offset where the first bad sequence starts)",
@@ -30,8 +33,8 @@ unfoldable pub lexed : List ℕ → ℕ → Answer
 lexed text lent =
     cond (ltb longest_text (length text)) (refused Refusal.TooLong longest_text)
     (elim (checked text) [
-      | Bad way at ↦ refused (not_utf8 way) at
-      | Good ↦ cond (ltb lent (length (tokens_of text))) (refused Refusal.TokensDontFit (length (tokens_of text))) (done (length (tokens_of text) ∷ []))
+      | Err e ↦ refused (not_utf8 e.way) e.at
+      | Ok u ↦ cond (ltb lent (length (tokens_of text))) (refused Refusal.TokensDontFit (length (tokens_of text))) (done (length (tokens_of text) ∷ []))
     ])
 
 -- The words that it leaves.

@@ -6,3 +6,4 @@ pub mod Lex
 pub mod Examples
 pub mod Walk
 pub mod Calls
+pub mod Left

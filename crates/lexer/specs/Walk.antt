@@ -73,6 +73,11 @@ cleared-next ws i t h p =
     let e : length ws - i ≡ suc (length ws - (i + 1)) = omega arith in
     rw (add-one i, take-suc-set ws i 0 h, length-set) (append_assoc (take i ws) (0 ∷ []) _ ∙ (rw (e, add-one i) at p))
 
+-- A function tells the tokens of a text: at each offset inside it may be called, and gives the token there.
+pub record Tells (text : List ℕ) (pre : ℕ → Type 0) (post : ℕ → Token → Type 0) : Type 0 where
+  pub callable : (at : ℕ) → at < length text → pre at
+  pub right : (at : ℕ) (t : Token) → at < length text → post at t → t ≡ from at (token_at (drop at text))
+
 -- Filling: the tokens from `at` on, put from the n-th word on, make of the words what those from `start` on make of the lent ones, from the word
 -- `first` on.
 pub record Filling (text lent : List ℕ) (start first : ℕ) (ws : List ℕ) (at n : ℕ) : Type 0 where

@@ -3,20 +3,19 @@
 
 ghost use Rattle.std.specs.Prelude.{◌≡◌, ◌++◌, map, ◌+◌, ◌-◌, ◌≤◌, ◌<◌, length, set, take, replicate};
 ghost use Rattle.std.proofs.lemmas.List.Edits.{sets};
+ghost use Rattle.words.specs.Refusal.{number};
 ghost use Rattle.scan.specs.Lexer.{longest_text, tokens_of, word};
-ghost use Rattle.lexer.specs.Walk.{rest, marks};
+ghost use Rattle.lexer.specs.Walk.{Tells, rest, marks};
 ghost use Rattle.lexer.specs.Lex.{answer, lexed, lexed_words, not_utf8, start_of, spelling_of, spelling_start, Begins};
+ghost use Rattle.lexer.specs.Calls.{Counted};
 
 pub use scan::LONGEST_TEXT;
-use utf8::{Checked, Way};
-use words::{refusal, token};
+use scan::Token;
+use utf8::Way;
+use words::{Refusal, Refused, token};
 
-// What lexing answers: the number of tokens, Eof included, or a refusal's number and place.
-#[derive(Clone, Copy)]
-pub enum Lexed {
-    Tokens(usize),
-    Refused(u32, usize),
-}
+// What lexing answers: the number of tokens, Eof included.
+pub type Lexed = Result<usize, Refused>;
 
 // A word stored where there is room for it.
 pub fn put(words: &mut [u32], n: usize, word: u32)
@@ -31,23 +30,27 @@ pub fn put(words: &mut [u32], n: usize, word: u32)
 pub fn clear(words: &mut [u32], n: usize)
     ensures { words.new ≡ take n words.old ++ replicate (length words.old - n) 0 }
 {
-    let mut i = n;
-    while i < words.len() {
-        words[i] = 0;
-        i += 1;
-    }
+    let kept = n.min(words.len());
+    words[kept..].fill(0);
 }
 
 // The tokens from an offset on, put from a word on, as many as there is room for, and how many there are with those before: each is read once,
 // also where there is no room.
-fn fill_from(text: &[u8], words: &mut [u32], start: usize, first: usize) -> usize
-    requires { (length text.now ≤ longest_text) × (start ≤ length text.now) × (first ≤ start) }
+fn fill_from<F: Fn(usize) -> Token>(
+    text: &[u8],
+    words: &mut [u32],
+    start: usize,
+    first: usize,
+    token_at: F,
+) -> usize
+    requires bounds { (length text.now ≤ longest_text) × (start ≤ length text.now) × (first ≤ start) }
+    requires tells { Tells text.now (F.pre token_at) (F.post token_at) }
     ensures { (result ≡ first + length (rest text.now start)) × (words.new ≡ sets words.old first (map word (rest text.now start))) }
 {
     let mut at = start;
     let mut n = first;
     while at < text.len() {
-        let t = tokens::next_token(text, at);
+        let t = token_at(at);
         let end = t.end;
         put(words, n, words::token_word(t.kind, end as u32));
         n += 1;
@@ -69,48 +72,59 @@ pub fn put_mark(text: &[u8], words: &mut [u32]) -> usize
 }
 
 // The tokens' words, and the number of tokens. There is one call of the loop: with two it is no part of `lex`, and each token costs more.
-fn fill(text: &[u8], words: &mut [u32]) -> usize
-    requires { length text.now ≤ longest_text }
+fn fill<F: Fn(usize) -> Token>(text: &[u8], words: &mut [u32], token_at: F) -> usize
+    requires short { length text.now ≤ longest_text }
+    requires tells { Tells text.now (F.pre token_at) (F.post token_at) }
     ensures { (result ≡ length (tokens_of text.now)) × (words.new ≡ sets words.old 0 (map word (tokens_of text.now))) }
 {
     let first = put_mark(text, words);
-    fill_from(text, words, 3 * first, first)
+    fill_from(text, words, 3 * first, first, token_at)
 }
 
-// The number of the refusal of a text that isn't UTF-8, by the way in which it isn't.
-pub fn not_utf8(way: Way) -> u32
-    ensures { result ≡ not_utf8 way }
+// The refusal of a text that isn't UTF-8, by the way in which it isn't.
+pub fn not_utf8(way: Way) -> Refusal
+    ensures { number result ≡ not_utf8 way }
 {
     match way {
-        Way::NoStart => refusal::NOT_UTF8_START,
-        Way::NotAllowed => refusal::NOT_UTF8_LATER,
-        Way::Cut => refusal::NOT_UTF8_CUT,
+        Way::NoStart => Refusal::NotUtf8Start,
+        Way::NotAllowed => Refusal::NotUtf8Later,
+        Way::Cut => Refusal::NotUtf8Cut,
     }
+}
+
+// The tokens' words, where it doesn't refuse; the rest of the slice, and all of it on refusal, is left to be cleared.
+fn count<F: Fn(usize) -> Token>(text: &[u8], tokens: &mut [u32], token_at: F) -> Lexed
+    requires { length text.now ≤ longest_text → Tells text.now (F.pre token_at) (F.post token_at) }
+    ensures { Counted text.now tokens.old tokens.new result }
+{
+    if LONGEST_TEXT < text.len() {
+        return Err(Refusal::TooLong.at(LONGEST_TEXT as u32));
+    }
+    if let Err(wrong) = utf8::check(text) {
+        return Err(not_utf8(wrong.way).at(wrong.at as u32));
+    }
+    let n = fill(text, tokens, token_at);
+    if tokens.len() < n {
+        return Err(Refusal::TokensDontFit.at(n as u32));
+    }
+    Ok(n)
+}
+
+// `lex` by any function that tells the token at an offset: that of crate tokens, or that of crate tables.
+pub fn lex_by<F: Fn(usize) -> Token>(text: &[u8], tokens: &mut [u32], token_at: F) -> Lexed
+    requires { length text.now ≤ longest_text → Tells text.now (F.pre token_at) (F.post token_at) }
+    ensures { (answer result ≡ lexed text.now (length tokens.old)) × (tokens.new ≡ lexed_words text.now (length tokens.old)) }
+{
+    let lexed = count(text, tokens, token_at);
+    clear(tokens, lexed.unwrap_or(0));
+    lexed
 }
 
 // A text's tokens as words, Eof last, and 0 in the rest of the slice; where it refuses, 0 in all of it.
 pub fn lex(text: &[u8], tokens: &mut [u32]) -> Lexed
     ensures { (answer result ≡ lexed text.now (length tokens.old)) × (tokens.new ≡ lexed_words text.now (length tokens.old)) }
 {
-    if LONGEST_TEXT < text.len() {
-        clear(tokens, 0);
-        return Lexed::Refused(refusal::TOO_LONG, LONGEST_TEXT);
-    }
-    match utf8::check(text) {
-        Checked::Good => {
-            let n = fill(text, tokens);
-            if tokens.len() < n {
-                clear(tokens, 0);
-                return Lexed::Refused(refusal::TOKENS_DONT_FIT, n);
-            }
-            clear(tokens, n);
-            Lexed::Tokens(n)
-        }
-        Checked::Bad(way, at) => {
-            clear(tokens, 0);
-            Lexed::Refused(not_utf8(way), at)
-        }
-    }
+    lex_by(text, tokens, |at| tokens::next_token(text, at))
 }
 
 // Where a token starts: where the one before it ends.
@@ -135,10 +149,7 @@ pub fn spelling<'a>(text: &'a [u8], tokens: &[u32], n: usize) -> &'a [u8]
     }
     let start = start_of(tokens, n);
     let end = words::token_end(tokens[n]) as usize;
-    if end < start {
-        return empty;
-    }
-    if text.len() < end {
+    if end < start || text.len() < end {
         return empty;
     }
     &text[start..end]

@@ -5,7 +5,7 @@ use Rattle.words.specs.Report
 use Rattle.words.specs.Value
 use Rattle.words.specs.Words.{value_head}
 use Rattle.utf8.specs.Utf8.{character_at}
-use Rattle.utf8.specs.declared.Character.TheVariants.{Is, Nothing}
+use Rattle.std.specs.Prelude.{Some, None}
 use Rattle.literals.specs.declared.Span.{Span}
 use Rattle.literals.specs.Spelling.{span}
 use Rattle.literals.specs.Numbers.{nibble}
@@ -36,8 +36,8 @@ characters_from at skip [] = []
 characters_from at (suc skip) (b ∷ s) = characters_from (at + 1) skip s
 characters_from at zero (b ∷ s) =
     elim (character_at (b ∷ s)) [
-      | Is c n ↦ char c at (at + n) ∷ characters_from (at + 1) (n - 1) s
-      | Nothing ↦ char b at (at + 1) ∷ characters_from (at + 1) 0 s
+      | Some c ↦ char c.code_point at (at + c.length) ∷ characters_from (at + 1) (c.length - 1) s
+      | None ↦ char b at (at + 1) ∷ characters_from (at + 1) 0 s
     ]
 
 -- What stands between the quotes of a token's spelling: `opening` bytes stand before it, and one after.

@@ -1,17 +1,11 @@
 -- What a look at node words tells, whatever the words are (01, Refusals, "Whoever alters node words").
-use Rattle.std.specs.Prelude.{Bool, cond, not, ◌&&◌, List, ℕ, zero, suc, ◌+◌, ◌-◌, ◌*◌, ◌/◌, ◌%◌, eqb, leb, ltb, length, drop}
+use Rattle.std.specs.Prelude.{Option, Some, None, Result, Ok, Err, Bool, cond, not, ◌&&◌, List, ℕ, zero, suc, ◌+◌, ◌-◌, ◌*◌, ◌/◌, ◌%◌, eqb, leb, ltb, length, drop}
 use Rattle.words.specs.Node
 use Rattle.words.specs.Refusal
 use Rattle.words.specs.Words.{node_width, node_of}
 use Rattle.words.specs.declared.node.Node.{Node as Fields}
-use Rattle.looking.specs.declared.Looked.{Looked}
-use Rattle.looking.specs.declared.Looked.TheVariants.{At, Altered}
-use Rattle.looking.specs.declared.Found.{Found}
-use Rattle.looking.specs.declared.Count.{Count}
-use Rattle.looking.specs.declared.Spanned.{Spanned}
+use Rattle.looking.specs.declared.Altered.{Altered}
 use Rattle.looking.specs.declared.TokenSpan.{TokenSpan}
-use Rattle.looking.specs.declared.View.{View}
-use Rattle.looking.specs.declared.View.TheVariants.{Is, None, Refused}
 
 -- What a view answers: the thing, none, or a refusal's number and place.
 pub data Seen (A : Type 0) : Type 0 where
@@ -20,29 +14,14 @@ pub data Seen (A : Type 0) : Type 0 where
   refused : ℕ → ℕ → Seen A
 
 -- 01's number and values for each case of an answer: "8, only from views: .. (the number of the node looked at)".
-abbrev pub answer : View → Seen ℕ
-answer (Is n) = is n
-answer None = none
-answer (Refused place) = refused Refusal.AlteredNodes place
+abbrev pub answer : {A : Type 0} → Result (Option A) Altered → Seen A
+answer (Ok (Some a)) = is a
+answer (Ok None) = none
+answer (Err altered) = refused Refusal.AlteredNodes altered.node
 
-abbrev pub fields : Looked → Seen Fields
-fields (At node) = is node
-fields (Altered place) = refused Refusal.AlteredNodes place
-
-abbrev pub found : Found → Seen Fields
-found (Found.Node node) = is node
-found Found.None = none
-found (Found.Refused place) = refused Refusal.AlteredNodes place
-
-abbrev pub counts : Count → Seen ℕ
-counts (Count.Is n) = is n
-counts Count.None = none
-counts (Count.Refused place) = refused Refusal.AlteredNodes place
-
-abbrev pub spans : Spanned → Seen TokenSpan
-spans (Spanned.Is span) = is span
-spans Spanned.None = none
-spans (Spanned.Refused place) = refused Refusal.AlteredNodes place
+abbrev pub fields : Result Fields Altered → Seen Fields
+fields (Ok node) = is node
+fields (Err altered) = refused Refusal.AlteredNodes altered.node
 
 -- One view and then another, of what the first one found.
 unfoldable pub and_then : {A B : Type 0} → Seen A → (A → Seen B) → Seen B

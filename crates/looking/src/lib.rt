@@ -1,59 +1,73 @@
 // A look at node words: any words, any node number. The answer is the thing, none, or refusal 8 where words that are looked at were altered.
-#![tactic(auto)]
+#![tactic(auto, unfolding(crate::specs::View::and_then))]
 
 ghost use Rattle.std.specs.Prelude.{◌≡◌, ◌+◌, ◌*◌, ◌<◌};
-ghost use Rattle.looking.specs.View.{answer, fields, found, counts, spans, count, node_at, look, nth, counted, turns};
-ghost use Rattle.looking.specs.View.{of, kept, nth_of, count_of, payload_of, new_of, name_of, inner_of, inner_count, new_child};
+ghost use Rattle.looking.specs.View.{answer, fields, among, count, node_at, look, nth, counted, turns};
+ghost use Rattle.looking.specs.View.{of, nth_of, count_of, payload_of, new_of, name_of, inner_of, inner_count, new_child};
 ghost use Rattle.looking.specs.View.{span_of, span_child, kind_of, flag_of, payload_child};
 
 pub mod any;
 
-use words::{NODE_WIDTH, Node};
+use words::{NODE_WIDTH, Node, node};
 
-// What a view finds: a number, none, or that the words of the node at this place were altered.
-#[derive(Clone, Copy)]
-pub enum View {
-    Is(u32),
-    None,
-    Refused(u32),
+// The words of this node were altered.
+#[derive(Clone, Copy, Debug, PartialEq, Eq)]
+pub struct Altered {
+    pub node: u32,
 }
 
-// A node that is looked at: its fields, or that its words were altered.
-#[derive(Clone, Copy)]
-pub enum Looked {
-    At(Node),
-    Altered(u32),
-}
-
-// A node of a view's kind: its fields, none where it has another kind, or that its words were altered.
-#[derive(Clone, Copy)]
-pub enum Found {
-    Node(Node),
-    None,
-    Refused(u32),
-}
+// What a view finds: the thing or none, unless words that it looks at were altered.
+pub type Seen<T> = Result<Option<T>, Altered>;
 
 // The tokens of a node: its first, and the one past its last.
-#[derive(Clone, Copy)]
+#[derive(Clone, Copy, Debug, PartialEq, Eq)]
 pub struct TokenSpan {
     pub start: u32,
     pub end: u32,
 }
 
-// The tokens that a view finds.
-#[derive(Clone, Copy)]
-pub enum Spanned {
-    Is(TokenSpan),
-    None,
-    Refused(u32),
+// The kinds from one to another.
+#[derive(Clone, Copy, Debug, PartialEq, Eq)]
+pub struct Kinds {
+    pub from: u32,
+    pub to: u32,
 }
 
-// A count, in the place of an iterator's end.
-#[derive(Clone, Copy)]
-pub enum Count {
-    Is(usize),
-    None,
-    Refused(u32),
+impl Kinds {
+    pub const ANY: Kinds = Kinds {
+        from: node::FILE,
+        to: node::ERROR,
+    };
+
+    pub const BLOCKS: Kinds = Kinds {
+        from: node::INIT_BLOCK,
+        to: node::BLOCK,
+    };
+
+    pub const PARAMETERS: Kinds = Kinds {
+        from: node::PARAMETER,
+        to: node::COMPTIME_PARAMETER,
+    };
+
+    pub const WHILES: Kinds = Kinds {
+        from: node::WHILE_STMT,
+        to: node::INLINE_WHILE_STMT,
+    };
+
+    pub fn one(kind: u32) -> Kinds
+        ensures { (result.from ≡ kind) × (result.to ≡ kind) }
+    {
+        Kinds {
+            from: kind,
+            to: kind,
+        }
+    }
+
+    fn holds(self, kind: u32) -> bool
+        ensures { result ≡ among self.from self.to kind }
+    {
+        self.from <= kind && kind <= self.to
+    }
 }
 
 // The words of a node that is there.
@@ -72,284 +86,198 @@ fn node_at(nodes: &[u32], n: u32) -> Node
     ])
 }
 
-pub fn look(nodes: &[u32], n: u32) -> Looked
+#[tactic(auto, using(std::proofs::lemmas::Bool::Decides::nat_tests), unfolding(crate::specs::View::look, crate::specs::View::sound))]
+pub fn look(nodes: &[u32], n: u32) -> Result<Node, Altered>
     ensures { fields result ≡ look nodes.now n }
 {
-    if nodes.len() / NODE_WIDTH <= (n as usize) {
-        return Looked::Altered(n);
+    if nodes.len() / NODE_WIDTH <= n as usize {
+        return Err(Altered { node: n });
     }
     let found = node_at(nodes, n);
-    let kind = found.kind;
-    let next = found.next;
-    if words::node::ERROR < kind {
-        return Looked::Altered(n);
+    if node::ERROR < found.kind || found.next != 0 && found.next <= n {
+        return Err(Altered { node: n });
     }
-    if next == 0 {
-        return Looked::At(found);
-    }
-    if next <= n {
-        return Looked::Altered(n);
-    }
-    Looked::At(found)
+    Ok(found)
+}
+
+// The turns that a walk may take: one more than there are nodes.
+pub fn turns(nodes: &[u32]) -> usize
+    ensures { result ≡ turns nodes.now }
+{
+    nodes.len() / NODE_WIDTH + 1
 }
 
 // No kind stops a walk: one above the last.
 pub const NO_STOP: u32 = 50;
 
-// Of the siblings from `first` on, up to one of kind `stop`, the i-th whose kind is one of `from` to `to`.
-pub fn nth(nodes: &[u32], first: u32, stop: u32, from: u32, to: u32, i: u64) -> View
-    ensures { answer result ≡ nth (turns nodes.now) stop from to nodes.now first i }
+// A node whose kind is one of `kinds`.
+#[tactic(auto, unfolding(crate::specs::View::of, crate::specs::View::and_then))]
+pub fn of(nodes: &[u32], n: u32, kinds: Kinds) -> Seen<Node>
+    ensures { answer result ≡ of kinds.from kinds.to nodes.now n }
 {
-    let mut at = first;
-    let mut left = i;
-    let mut turns = nodes.len() / NODE_WIDTH + 1;
-    while turns != 0 {
-        if at == 0 {
-            return View::None;
-        }
-        match look(nodes, at) {
-            Looked::Altered(place) => return View::Refused(place),
-            Looked::At(found) => {
-                let kind = found.kind;
-                if kind == stop {
-                    return View::None;
-                }
-                turns -= 1;
-                if kind < from {
-                    at = found.next;
-                } else if to < kind {
-                    at = found.next;
-                } else if left == 0 {
-                    return View::Is(at);
-                } else {
-                    left -= 1;
-                    at = found.next;
-                }
-            }
-        }
-    }
-    View::None
+    let node = look(nodes, n)?;
+    Ok(kinds.holds(node.kind).then_some(node))
 }
 
-// How many of the siblings from `first` on, up to one of kind `stop`, have a kind from `from` to `to`.
-pub fn counted(nodes: &[u32], first: u32, stop: u32, from: u32, to: u32) -> Count
-    ensures { counts result ≡ counted (turns nodes.now) stop from to nodes.now first 0 }
+// Of a node of `kinds`, the i-th child whose kind is one of `wanted`.
+pub fn nth_of(nodes: &[u32], n: u32, kinds: Kinds, wanted: Kinds, i: u64) -> Seen<u32>
+    ensures { answer result ≡ nth_of kinds.from kinds.to wanted.from wanted.to i nodes.now n }
 {
-    let mut at = first;
-    let mut sum: usize = 0;
-    let mut turns = nodes.len() / NODE_WIDTH + 1;
-    while turns != 0 {
-        if at == 0 {
-            return Count::Is(sum);
-        }
-        match look(nodes, at) {
-            Looked::Altered(place) => return Count::Refused(place),
-            Looked::At(node) => {
-                let kind = node.kind;
-                if kind == stop {
-                    return Count::Is(sum);
-                }
-                turns -= 1;
-                at = node.next;
-                if kind < from {} else if to < kind {} else {
-                    sum += 1;
-                }
-            }
-        }
-    }
-    Count::Is(sum)
-}
-
-// A node whose kind is one of `from` to `to`.
-pub fn of(nodes: &[u32], n: u32, from: u32, to: u32) -> Found
-    ensures { found result ≡ of from to nodes.now n }
-{
-    match look(nodes, n) {
-        Looked::Altered(place) => Found::Refused(place),
-        Looked::At(node) => {
-            let kind = node.kind;
-            if kind < from {
-                return Found::None;
-            }
-            if to < kind {
-                return Found::None;
-            }
-            Found::Node(node)
-        }
-    }
-}
-
-// The number itself, of what another view finds.
-pub fn kept(v: View, n: u32) -> View
-    ensures { answer result ≡ kept n (answer v) }
-{
-    match v {
-        View::Is(found) => View::Is(n),
-        View::None => View::None,
-        View::Refused(place) => View::Refused(place),
-    }
-}
-
-// Of a node of kind `from` to `to`, the i-th child whose kind is one of `low` to `high`.
-pub fn nth_of(nodes: &[u32], n: u32, from: u32, to: u32, low: u32, high: u32, i: u64) -> View
-    ensures { answer result ≡ nth_of from to low high i nodes.now n }
-{
-    match of(nodes, n, from, to) {
-        Found::None => View::None,
-        Found::Refused(place) => View::Refused(place),
-        Found::Node(node) => nth(nodes, node.child, NO_STOP, low, high, i),
-    }
+    let Some(node) = of(nodes, n, kinds)? else {
+        return Ok(None);
+    };
+    nth(nodes, node.child, NO_STOP, wanted, i)
 }
 
 // How many there are of these.
-pub fn count_of(nodes: &[u32], n: u32, from: u32, to: u32, low: u32, high: u32) -> Count
-    ensures { counts result ≡ count_of from to low high nodes.now n }
+pub fn count_of(nodes: &[u32], n: u32, kinds: Kinds, wanted: Kinds) -> Seen<usize>
+    ensures { answer result ≡ count_of kinds.from kinds.to wanted.from wanted.to nodes.now n }
 {
-    match of(nodes, n, from, to) {
-        Found::None => Count::None,
-        Found::Refused(place) => Count::Refused(place),
-        Found::Node(node) => counted(nodes, node.child, NO_STOP, low, high),
-    }
+    let Some(node) = of(nodes, n, kinds)? else {
+        return Ok(None);
+    };
+    counted(nodes, node.child, NO_STOP, wanted)
 }
 
-pub fn payload_of(nodes: &[u32], n: u32, from: u32, to: u32) -> View
-    ensures { answer result ≡ payload_of from to nodes.now n }
+pub fn payload_of(nodes: &[u32], n: u32, kinds: Kinds) -> Seen<u32>
+    ensures { answer result ≡ payload_of kinds.from kinds.to nodes.now n }
 {
-    match of(nodes, n, from, to) {
-        Found::None => View::None,
-        Found::Refused(place) => View::Refused(place),
-        Found::Node(node) => View::Is(node.payload),
-    }
+    Ok(of(nodes, n, kinds)?.map(|node| node.payload))
 }
 
-// The number itself of a node of kind `from` to `to`.
-pub fn new_of(nodes: &[u32], n: u32, from: u32, to: u32) -> View
-    ensures { answer result ≡ new_of from to nodes.now n }
+// The number itself of a node of `kinds`.
+pub fn new_of(nodes: &[u32], n: u32, kinds: Kinds) -> Seen<u32>
+    ensures { answer result ≡ new_of kinds.from kinds.to nodes.now n }
 {
-    match of(nodes, n, from, to) {
-        Found::None => View::None,
-        Found::Refused(place) => View::Refused(place),
-        Found::Node(node) => View::Is(n),
-    }
+    Ok(of(nodes, n, kinds)?.map(|_| n))
 }
 
-// The name that the i-th child of a node of kind `from` to `to` is.
-pub fn name_of(nodes: &[u32], n: u32, from: u32, to: u32, i: u64) -> View
-    ensures { answer result ≡ name_of from to i nodes.now n }
+// Of the siblings from `first` on, up to one of kind `stop`, the i-th whose kind is one of `wanted`.
+pub fn nth(nodes: &[u32], first: u32, stop: u32, wanted: Kinds, i: u64) -> Seen<u32>
+    ensures { answer result ≡ nth (turns nodes.now) stop wanted.from wanted.to nodes.now first i }
 {
-    match nth_of(nodes, n, from, to, 0, words::node::ERROR, i) {
-        View::None => View::None,
-        View::Refused(place) => View::Refused(place),
-        View::Is(c) => payload_of(nodes, c, words::node::IDENTIFIER, words::node::IDENTIFIER),
+    let mut at = first;
+    let mut left = i;
+    for _turn in 0..turns(nodes) {
+        if at == 0 {
+            return Ok(None);
+        }
+        let node = look(nodes, at)?;
+        if node.kind == stop {
+            return Ok(None);
+        }
+        if wanted.holds(node.kind) {
+            if left == 0 {
+                return Ok(Some(at));
+            }
+            left -= 1;
+        }
+        at = node.next;
     }
+    Ok(None)
 }
 
-// Of the k-th child of a node of kind `from` to `to`, the i-th child whose kind is one of `low` to `high`.
-pub fn inner_of(
-    nodes: &[u32],
-    n: u32,
-    from: u32,
-    to: u32,
-    k: u64,
-    low: u32,
-    high: u32,
-    i: u64,
-) -> View
-    ensures { answer result ≡ inner_of from to k low high i nodes.now n }
+// How many of the siblings from `first` on, up to one of kind `stop`, have a kind of `wanted`.
+pub fn counted(nodes: &[u32], first: u32, stop: u32, wanted: Kinds) -> Seen<usize>
+    ensures { answer result ≡ counted (turns nodes.now) stop wanted.from wanted.to nodes.now first 0 }
 {
-    match nth_of(nodes, n, from, to, 0, words::node::ERROR, k) {
-        View::None => View::None,
-        View::Refused(place) => View::Refused(place),
-        View::Is(c) => nth_of(nodes, c, 0, words::node::ERROR, low, high, i),
+    let mut at = first;
+    let mut sum = 0;
+    for _turn in 0..turns(nodes) {
+        if at == 0 {
+            break;
+        }
+        let node = look(nodes, at)?;
+        if node.kind == stop {
+            break;
+        }
+        at = node.next;
+        if wanted.holds(node.kind) {
+            sum += 1;
+        }
     }
+    Ok(Some(sum))
+}
+
+// The name that the i-th child of a node of `kinds` is.
+pub fn name_of(nodes: &[u32], n: u32, kinds: Kinds, i: u64) -> Seen<u32>
+    ensures { answer result ≡ name_of kinds.from kinds.to i nodes.now n }
+{
+    payload_child(nodes, n, kinds, i, Kinds::one(node::IDENTIFIER))
+}
+
+// Of the k-th child of a node of `kinds`, the i-th child whose kind is one of `wanted`.
+pub fn inner_of(nodes: &[u32], n: u32, kinds: Kinds, k: u64, wanted: Kinds, i: u64) -> Seen<u32>
+    ensures { answer result ≡ inner_of kinds.from kinds.to k wanted.from wanted.to i nodes.now n }
+{
+    let Some(child) = nth_of(nodes, n, kinds, Kinds::ANY, k)? else {
+        return Ok(None);
+    };
+    nth_of(nodes, child, Kinds::ANY, wanted, i)
 }
 
 // How many these are.
-pub fn inner_count(nodes: &[u32], n: u32, from: u32, to: u32, k: u64, low: u32, high: u32) -> Count
-    ensures { counts result ≡ inner_count from to k low high nodes.now n }
+pub fn inner_count(nodes: &[u32], n: u32, kinds: Kinds, k: u64, wanted: Kinds) -> Seen<usize>
+    ensures { answer result ≡ inner_count kinds.from kinds.to k wanted.from wanted.to nodes.now n }
 {
-    match nth_of(nodes, n, from, to, 0, words::node::ERROR, k) {
-        View::None => Count::None,
-        View::Refused(place) => Count::Refused(place),
-        View::Is(c) => count_of(nodes, c, 0, words::node::ERROR, low, high),
-    }
+    let Some(child) = nth_of(nodes, n, kinds, Kinds::ANY, k)? else {
+        return Ok(None);
+    };
+    count_of(nodes, child, Kinds::ANY, wanted)
 }
 
-// The i-th child of a node of kind `from` to `to`, where the child's kind is one of `low` to `high`.
-pub fn new_child(nodes: &[u32], n: u32, from: u32, to: u32, i: u64, low: u32, high: u32) -> View
-    ensures { answer result ≡ new_child from to i low high nodes.now n }
+// The i-th child of a node of `kinds`, where the child's kind is one of `wanted`.
+pub fn new_child(nodes: &[u32], n: u32, kinds: Kinds, i: u64, wanted: Kinds) -> Seen<u32>
+    ensures { answer result ≡ new_child kinds.from kinds.to i wanted.from wanted.to nodes.now n }
 {
-    match nth_of(nodes, n, from, to, 0, words::node::ERROR, i) {
-        View::None => View::None,
-        View::Refused(place) => View::Refused(place),
-        View::Is(c) => new_of(nodes, c, low, high),
-    }
+    let Some(child) = nth_of(nodes, n, kinds, Kinds::ANY, i)? else {
+        return Ok(None);
+    };
+    new_of(nodes, child, wanted)
 }
 
-pub fn span_of(nodes: &[u32], n: u32, from: u32, to: u32) -> Spanned
-    ensures { spans result ≡ span_of from to nodes.now n }
+pub fn span_of(nodes: &[u32], n: u32, kinds: Kinds) -> Seen<TokenSpan>
+    ensures { answer result ≡ span_of kinds.from kinds.to nodes.now n }
 {
-    match of(nodes, n, from, to) {
-        Found::None => Spanned::None,
-        Found::Refused(place) => Spanned::Refused(place),
-        Found::Node(node) => Spanned::Is(TokenSpan {
-            start: node.first,
-            end: node.end,
-        }),
-    }
+    Ok(of(nodes, n, kinds)?.map(|node| TokenSpan {
+        start: node.first,
+        end: node.end,
+    }))
 }
 
-// The tokens of the i-th child of a node of kind `from` to `to`, where the child's kind is one of `low` to `high`.
-pub fn span_child(nodes: &[u32], n: u32, from: u32, to: u32, i: u64, low: u32, high: u32) -> Spanned
-    ensures { spans result ≡ span_child from to i low high nodes.now n }
+// The tokens of the i-th child of a node of `kinds`, where the child's kind is one of `wanted`.
+pub fn span_child(nodes: &[u32], n: u32, kinds: Kinds, i: u64, wanted: Kinds) -> Seen<TokenSpan>
+    ensures { answer result ≡ span_child kinds.from kinds.to i wanted.from wanted.to nodes.now n }
 {
-    match nth_of(nodes, n, from, to, 0, words::node::ERROR, i) {
-        View::None => Spanned::None,
-        View::Refused(place) => Spanned::Refused(place),
-        View::Is(c) => span_of(nodes, c, low, high),
-    }
+    let Some(child) = nth_of(nodes, n, kinds, Kinds::ANY, i)? else {
+        return Ok(None);
+    };
+    span_of(nodes, child, wanted)
 }
 
-// The kind of a node of kind `from` to `to`, as its place among these.
-pub fn kind_of(nodes: &[u32], n: u32, from: u32, to: u32) -> View
-    ensures { answer result ≡ kind_of from to nodes.now n }
+// The kind of a node of `kinds`, as its place among these.
+pub fn kind_of(nodes: &[u32], n: u32, kinds: Kinds) -> Seen<u32>
+    ensures { answer result ≡ kind_of kinds.from kinds.to nodes.now n }
 {
-    match of(nodes, n, from, to) {
-        Found::None => View::None,
-        Found::Refused(place) => View::Refused(place),
-        Found::Node(node) => {
-            let kind = node.kind;
-            if kind < from {
-                return View::Is(0);
-            }
-            View::Is(kind - from)
-        }
-    }
+    Ok(of(nodes, n, kinds)?.map(|node| node.kind.saturating_sub(kinds.from)))
 }
 
-// A flag of a node of kind `from` to `to`: 1 where it is set, 0 where not. 0 is no flag.
-pub fn flag_of(nodes: &[u32], n: u32, from: u32, to: u32, flag: u32) -> View
-    ensures { answer result ≡ flag_of from to flag nodes.now n }
+// A flag of a node of `kinds`: 1 where it is set, 0 where not. 0 is no flag.
+pub fn flag_of(nodes: &[u32], n: u32, kinds: Kinds, flag: u32) -> Seen<u32>
+    ensures { answer result ≡ flag_of kinds.from kinds.to flag nodes.now n }
 {
-    match payload_of(nodes, n, from, to) {
-        View::None => View::None,
-        View::Refused(place) => View::Refused(place),
-        View::Is(payload) => {
-            if flag == 0 {
-                return View::None;
-            }
-            View::Is(payload / flag % 2)
-        }
-    }
+    let Some(payload) = payload_of(nodes, n, kinds)? else {
+        return Ok(None);
+    };
+    Ok(payload.checked_div(flag).map(|flags| flags % 2))
 }
 
-// The payload of the i-th child of a node of kind `from` to `to`, where the child's kind is one of `low` to `high`.
-pub fn payload_child(nodes: &[u32], n: u32, from: u32, to: u32, i: u64, low: u32, high: u32) -> View
-    ensures { answer result ≡ payload_child from to i low high nodes.now n }
+// The payload of the i-th child of a node of `kinds`, where the child's kind is one of `wanted`.
+pub fn payload_child(nodes: &[u32], n: u32, kinds: Kinds, i: u64, wanted: Kinds) -> Seen<u32>
+    ensures { answer result ≡ payload_child kinds.from kinds.to i wanted.from wanted.to nodes.now n }
 {
-    match nth_of(nodes, n, from, to, 0, words::node::ERROR, i) {
-        View::None => View::None,
-        View::Refused(place) => View::Refused(place),
-        View::Is(c) => payload_of(nodes, c, low, high),
-    }
+    let Some(child) = nth_of(nodes, n, kinds, Kinds::ANY, i)? else {
+        return Ok(None);
+    };
+    payload_of(nodes, child, wanted)
 }

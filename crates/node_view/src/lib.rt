@@ -1,13 +1,13 @@
 // A view of a node, which keeps the node words it looks at (`NodeView` of cst/mod.rs; its `parent` is not the Rust's). Each method takes it
 // apart and asks crate looking; the functions behind them make a view of plain words and ask it.
-#![tactic(auto)]
+#![tactic(auto, unfolding(looking::specs::View::and_then))]
 
 ghost use Rattle.std.specs.Prelude.{◌≡◌};
-ghost use Rattle.looking.specs.View.{answer, spans, counts, ident, name_of};
+ghost use Rattle.looking.specs.View.{answer, ident, name_of};
 ghost use Rattle.words.specs.Node;
 ghost use Rattle.looking.specs.Any.{kind, span, child, child_count, parent};
 
-use looking::{Count, Spanned, View, any};
+use looking::{Seen, TokenSpan, any};
 
 #[derive(Clone, Copy)]
 pub struct NodeView<'a> {
@@ -34,42 +34,42 @@ impl<'a> NodeView<'a> {
     }
 
     // `NodeView::kind`.
-    pub fn kind(self) -> View
+    pub fn kind(self) -> Seen<u32>
         ensures { answer result ≡ kind self.entry.nodes.now self.entry.n }
     {
         any::kind(self.nodes, self.n)
     }
 
     // `NodeView::span`.
-    pub fn span(self) -> Spanned
-        ensures { spans result ≡ span self.entry.nodes.now self.entry.n }
+    pub fn span(self) -> Seen<TokenSpan>
+        ensures { answer result ≡ span self.entry.nodes.now self.entry.n }
     {
         any::span(self.nodes, self.n)
     }
 
     // `NodeView::child`: the child's number, of which `at` makes a view.
-    pub fn child(self, i: u32) -> View
+    pub fn child(self, i: u32) -> Seen<u32>
         ensures { answer result ≡ child i self.entry.nodes.now self.entry.n }
     {
         any::child(self.nodes, self.n, i)
     }
 
     // `NodeView::children`, counted.
-    pub fn child_count(self) -> Count
-        ensures { counts result ≡ child_count self.entry.nodes.now self.entry.n }
+    pub fn child_count(self) -> Seen<usize>
+        ensures { answer result ≡ child_count self.entry.nodes.now self.entry.n }
     {
         any::child_count(self.nodes, self.n)
     }
 
     // `NodeView::ident`.
-    pub fn ident(self) -> View
+    pub fn ident(self) -> Seen<u32>
         ensures { answer result ≡ ident self.entry.nodes.now self.entry.n }
     {
         any::ident(self.nodes, self.n)
     }
 
     // The number of the node whose child it is; File has none.
-    pub fn parent(self) -> View
+    pub fn parent(self) -> Seen<u32>
         ensures { answer result ≡ parent self.entry.nodes.now self.entry.n }
     {
         any::parent(self.nodes, self.n)
@@ -77,56 +77,49 @@ impl<'a> NodeView<'a> {
 }
 
 // The methods, for callers that have plain words.
-pub fn kind_at(nodes: &[u32], n: u32) -> View
+pub fn kind_at(nodes: &[u32], n: u32) -> Seen<u32>
     ensures { answer result ≡ kind nodes.now n }
 {
     NodeView::new(nodes, n).kind()
 }
 
-pub fn span_at(nodes: &[u32], n: u32) -> Spanned
-    ensures { spans result ≡ span nodes.now n }
+pub fn span_at(nodes: &[u32], n: u32) -> Seen<TokenSpan>
+    ensures { answer result ≡ span nodes.now n }
 {
     NodeView::new(nodes, n).span()
 }
 
-pub fn child_at(nodes: &[u32], n: u32, i: u32) -> View
+pub fn child_at(nodes: &[u32], n: u32, i: u32) -> Seen<u32>
     ensures { answer result ≡ child i nodes.now n }
 {
     NodeView::new(nodes, n).child(i)
 }
 
-pub fn child_count_at(nodes: &[u32], n: u32) -> Count
-    ensures { counts result ≡ child_count nodes.now n }
+pub fn child_count_at(nodes: &[u32], n: u32) -> Seen<usize>
+    ensures { answer result ≡ child_count nodes.now n }
 {
     NodeView::new(nodes, n).child_count()
 }
 
-pub fn ident_at(nodes: &[u32], n: u32) -> View
+pub fn ident_at(nodes: &[u32], n: u32) -> Seen<u32>
     ensures { answer result ≡ ident nodes.now n }
 {
     NodeView::new(nodes, n).ident()
 }
 
-pub fn parent_at(nodes: &[u32], n: u32) -> View
+pub fn parent_at(nodes: &[u32], n: u32) -> Seen<u32>
     ensures { answer result ≡ parent nodes.now n }
 {
     NodeView::new(nodes, n).parent()
 }
 
-// The name that another node is, by a view that moves there.
-fn moved_ident(nodes: &[u32], n: u32, c: u32) -> View
-    ensures { answer result ≡ ident nodes.now c }
-{
-    NodeView::new(nodes, n).at(c).ident()
-}
-
 // `child(i).and_then(NodeView::ident)`: a caller with no view of its own, which the borrow checker covers.
-pub fn child_ident(nodes: &[u32], n: u32, i: u32) -> View
+pub fn child_ident(nodes: &[u32], n: u32, i: u32) -> Seen<u32>
     ensures { answer result ≡ name_of Node.File Node.Error i nodes.now n }
 {
-    match child_at(nodes, n, i) {
-        View::None => View::None,
-        View::Refused(place) => View::Refused(place),
-        View::Is(c) => moved_ident(nodes, n, c),
-    }
+    let view = NodeView::new(nodes, n);
+    let Some(child) = view.child(i)? else {
+        return Ok(None);
+    };
+    view.at(child).ident()
 }

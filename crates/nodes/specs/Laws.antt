@@ -1,19 +1,21 @@
 -- Laws of the commands on nodes: what each does, by case.
-use Rattle.std.specs.Prelude.{◌≡◌, List, [], Bool, true, false, cond, ℕ, ◌+◌, ◌*◌, ◌≤◌, ◌<◌, eqb, leb, ltb, length, set, get_or}
+use Rattle.std.specs.Prelude.{◌≡◌, List, [], Bool, true, false, cond, ℕ, ◌+◌, ◌*◌, ◌≤◌, ◌<◌, leb, ltb, length, set, get_or, Some, None}
 use Rattle.std.proofs.Math.Path.{refl}
 use Rattle.std.proofs.Common.{sym, ◌∙◌, ap, arith, ltb-true, leb-true, lt-ltb, le-ltb, eq-eqb, ne_eqb}
 use Rattle.std.proofs.Math.Numerals.{towards_suc}
 use Rattle.std.proofs.Math.ListN.{get_or-eq_default}
 use Rattle.std.proofs.lemmas.List.Edits.{sets}
 use Rattle.std.proofs.Math.Seq.{set_out}
-use Rattle.words.specs.Refusal
+use Rattle.words.specs.Refusal.{number}
+use Rattle.words.specs.declared.refusal.Refusal.TheVariants.{NodesDontFit}
 use Rattle.words.specs.declared.node.Node.{Node}
 use Rattle.words.specs.Words.{node_head, node_kind, node_width, node_words}
 use Rattle.definition.specs.declared.State.{State}
-use Rattle.definition.specs.Prog.{Prog, Act, alloc, close_at, close_at_start, set_kind, link, kind_of, Memory, memory, done, refused, eval}
+use Rattle.definition.specs.Prog.{Prog, Act, alloc, close_at, close_at_start, set_kind, link, kind_of, memory, Out, done, refused, eval}
 use Rattle.definition.specs.Prog.{allocated, last_node, with_nodes, word_of, stored, linked, head_word, first_word, end_word, next_word, child_word, parent_word}
-use Rattle.reading.specs.declared.Reading.{Reading}
-use Rattle.reading.specs.Does.{Does, run, refused_at, goes, halts}
+use Rattle.reading.specs.declared.parser.Parser.{Parser}
+use Rattle.reading.specs.Standing.{is_refused, words, refused_at, Kept}
+use Rattle.reading.specs.Does.{Does, run, goes, halts, same}
 use Rattle.nodes.specs.Words.{has_room, stored_in, word_in}
 
 -- ---- one word of a node
@@ -58,47 +60,55 @@ module _ (n word : ℕ) (s : State) (ns : List ℕ) where
   unfolding word_of
   word-there h = rw (lt-ltb n s.nodes h, word_of)
 
--- ---- commands that a refused reading may carry out too: it stays as it is, and what is written then doesn't count
+-- ---- commands that a refused parser may carry out too: it stays refused, and what is written then doesn't count
 
-module _ {text tokens : List ℕ} {d : ℕ} {r : Reading} where
-  pub acts : {A : Type 0} {p : Prog A} {a : A} {m m' : Memory} → run text tokens d p r.state m ≡ done a r.state m' → Does text tokens d p r m a r m'
-  acts e = record { is = λ w. ap (λ o. cond (eqb r.refusal 0) o (refused r.refusal r.place)) (sym e) }
+pub acts : {A : Type 0} {c : Prog A} {a : A} {p p' : Parser} → p'.refused ≡ p.refused → Kept p p' → run p c p.state (words p) ≡ done a p'.state (words p') → Does c p a p'
+acts {A = A} {p = p} g k e =
+    record { is = λ w. rw g (ap (λ (o : Out A). elim p.refused [ None ↦ o | Some r ↦ refused (number r.refusal) r.place ]) (sym e)); kept = k }
 
-module _ {text tokens : List ℕ} {d : ℕ} {r : Reading} (ns vs rs ns' : List ℕ) where
-  writes : {p : Act} (n word w : ℕ) → run text tokens d p r.state (memory ns vs rs) ≡ done tt r.state (stored n word w r.state (memory ns vs rs))
-      → ns' ≡ stored_in n word w r.state ns → Does text tokens d p r (memory ns vs rs) tt r (memory ns' vs rs)
-  writes n word w e f = acts (e ∙ rw (stored-in, f))
+-- Other words of nodes under the same name.
+abbrev pub with_node_words : List ℕ → Parser → Parser
+with_node_words ns p = record p { nodes = record p.nodes { now = ns } }
 
-  pub close_at-is : (n end : ℕ) → ns' ≡ stored_in n end_word end r.state ns → Does text tokens d (close_at n end) r (memory ns vs rs) tt r (memory ns' vs rs)
+module _ {p : Parser} (ns' : List ℕ) where
+  rewritten : {c : Act} → run p c p.state (words p) ≡ done tt p.state (memory ns' p.values.now p.reports.now) → Does c p tt (with_node_words ns' p)
+  rewritten e = acts refl (record { text = refl; tokens = refl; nodes = refl; values = refl; reports = refl; levels = refl }) e
+
+  writes : {c : Act} (n word w : ℕ) → run p c p.state (words p) ≡ done tt p.state (stored n word w p.state (words p))
+      → ns' ≡ stored_in n word w p.state p.nodes.now → Does c p tt (with_node_words ns' p)
+  writes n word w e f = rewritten (e ∙ rw (stored-in, f))
+
+  pub close_at-is : (n end : ℕ) → ns' ≡ stored_in n end_word end p.state p.nodes.now → Does (close_at n end) p tt (with_node_words ns' p)
   unfolding eval
   close_at-is n end f = writes n end_word end refl f
 
-  pub close_at_start-is : (n k start : ℕ) → start ≡ word_in k first_word r.state ns → ns' ≡ stored_in n end_word start r.state ns
-      → Does text tokens d (close_at_start n k) r (memory ns vs rs) tt r (memory ns' vs rs)
+  pub close_at_start-is : (n k start : ℕ) → start ≡ word_in k first_word p.state p.nodes.now → ns' ≡ stored_in n end_word start p.state p.nodes.now
+      → Does (close_at_start n k) p tt (with_node_words ns' p)
   unfolding eval word_of
   close_at_start-is n k start e f = writes n end_word start (rw e) f
 
-  pub set_kind-is : (n kind payload head : ℕ) → head ≡ node_head kind payload → ns' ≡ stored_in n head_word head r.state ns
-      → Does text tokens d (set_kind n kind payload) r (memory ns vs rs) tt r (memory ns' vs rs)
+  pub set_kind-is : (n kind payload head : ℕ) → head ≡ node_head kind payload → ns' ≡ stored_in n head_word head p.state p.nodes.now
+      → Does (set_kind n kind payload) p tt (with_node_words ns' p)
   unfolding eval
   set_kind-is n kind payload head e f = writes n head_word head (rw e) f
 
   -- A link writes two words, one after the other.
   module _ (mid : List ℕ) where
-    pub link-first : (parent last child : ℕ) → last ≡ 0 → mid ≡ stored_in parent child_word child r.state ns → ns' ≡ stored_in child parent_word parent r.state mid
-        → Does text tokens d (link parent last child) r (memory ns vs rs) tt r (memory ns' vs rs)
+    pub link-first : (parent last child : ℕ) → last ≡ 0 → mid ≡ stored_in parent child_word child p.state p.nodes.now
+        → ns' ≡ stored_in child parent_word parent p.state mid → Does (link parent last child) p tt (with_node_words ns' p)
     unfolding eval linked
-    link-first parent last child h e f = acts (ap (done tt r.state) (rw (eq-eqb last 0 h) (stored-two parent child_word child child parent r.state ns mid ns' vs rs e f)))
+    link-first parent last child h e f =
+        rewritten (ap (done tt p.state) (rw (eq-eqb last 0 h) (stored-two parent child_word child child parent p.state p.nodes.now mid ns' p.values.now p.reports.now e f)))
 
-    pub link-next : (parent last child : ℕ) → (last ≡ 0 → ⊥) → mid ≡ stored_in last next_word child r.state ns → ns' ≡ stored_in child parent_word parent r.state mid
-        → Does text tokens d (link parent last child) r (memory ns vs rs) tt r (memory ns' vs rs)
+    pub link-next : (parent last child : ℕ) → (last ≡ 0 → ⊥) → mid ≡ stored_in last next_word child p.state p.nodes.now
+        → ns' ≡ stored_in child parent_word parent p.state mid → Does (link parent last child) p tt (with_node_words ns' p)
     unfolding eval linked
-    link-next parent last child h e f = acts (ap (done tt r.state) (rw (ne_eqb last 0 h) (stored-two last next_word child child parent r.state ns mid ns' vs rs e f)))
+    link-next parent last child h e f =
+        rewritten (ap (done tt p.state) (rw (ne_eqb last 0 h) (stored-two last next_word child child parent p.state p.nodes.now mid ns' p.values.now p.reports.now e f)))
 
-module _ {text tokens : List ℕ} {d : ℕ} {r : Reading} (ns vs rs : List ℕ) where
-  pub kind_of-is : (n head kind : ℕ) → head ≡ word_in n head_word r.state ns → kind ≡ node_kind head → Does text tokens d (kind_of n) r (memory ns vs rs) kind r (memory ns vs rs)
-  unfolding eval word_of
-  kind_of-is n head kind e f = acts (rw (f, e))
+pub kind_of-is : {p : Parser} (n head kind : ℕ) → head ≡ word_in n head_word p.state p.nodes.now → kind ≡ node_kind head → Does (kind_of n) p kind p
+unfolding eval word_of
+kind_of-is n head kind e f = acts refl same (rw (f, e))
 
 -- ---- a new node
 
@@ -129,12 +139,18 @@ six-stores ns ws at node e = rw e (simp towards_suc)
 abbrev pub new_node : ℕ → ℕ → ℕ → Node
 new_node start kind payload = record { kind = kind; payload = payload; first = start; end = start; next = 0; child = 0; parent = 0 }
 
-module _ {text tokens : List ℕ} {d : ℕ} {r : Reading} (ns vs rs : List ℕ) (h : r.refusal ≡ 0) (start kind payload : ℕ) where
-  pub alloc-full : (it : ℕ) → has_room r.state ns ≡ false → Does text tokens d (alloc start kind payload) r (memory ns vs rs) it (refused_at r Refusal.NodesDontFit) (memory ns vs rs)
-  unfolding eval allocated
-  alloc-full it g = halts h (λ e. omega arith) (rw (g, allocated))
+-- What a new node makes of the parser.
+abbrev pub with_new_node : List ℕ → Parser → Parser
+with_new_node ns p = record (with_node_words ns p) { state = with_nodes (p.state.nodes + 1) p.state }
 
-  pub alloc-fits : (r' : Reading) (ns' : List ℕ) → has_room r.state ns ≡ true → r'.refusal ≡ 0 → r'.state ≡ with_nodes (r.state.nodes + 1) r.state
-      → ns' ≡ sets ns (node_width * r.state.nodes) (node_words (new_node start kind payload)) → Does text tokens d (alloc start kind payload) r (memory ns vs rs) r.state.nodes r' (memory ns' vs rs)
+module _ {p : Parser} (h : is_refused p ≡ false) (start kind payload : ℕ) where
+  pub alloc-full : (it : ℕ) → has_room p.state p.nodes.now ≡ false → Does (alloc start kind payload) p it (refused_at p NodesDontFit)
   unfolding eval allocated
-  alloc-fits r' ns' g k e f = goes h k (rw (g, allocated, e, f))
+  alloc-full it g = halts h (rw (g, allocated))
+
+  pub alloc-fits : (ns' : List ℕ) → has_room p.state p.nodes.now ≡ true
+      → ns' ≡ sets p.nodes.now (node_width * p.state.nodes) (node_words (new_node start kind payload))
+      → Does (alloc start kind payload) p p.state.nodes (with_new_node ns' p)
+  unfolding eval allocated
+  alloc-fits ns' g f =
+      goes h refl (record { text = refl; tokens = refl; nodes = refl; values = refl; reports = refl; levels = refl }) (rw (g, allocated, f))

@@ -1,9 +1,7 @@
 -- Four chunks at once: they make one digit of a large radix.
-use Rattle.std.specs.Prelude.{◌≡◌, refl, List, ℕ, ◌+◌, ◌*◌, ◌≤◌, ◌<◌, length}
+use Rattle.std.specs.Prelude.{◌≡◌, refl, Option, Some, None, List, ℕ, ◌+◌, ◌*◌, ◌≤◌, ◌<◌, length}
 use Rattle.std.proofs.Common.{◌∙◌, ap, arith}
 use Rattle.literals.specs.Numbers.{limbs}
-use Rattle.values.specs.declared.Count.{Count}
-use Rattle.values.specs.declared.Count.TheVariants.{Words, DontFit}
 use Rattle.values.specs.Kept.{Put}
 use Rattle.numerals.specs.declared.Four.{Four}
 use Rattle.numerals.specs.Numbers.{Pushed}
@@ -54,40 +52,40 @@ module _ (u v : Four) (ok : Positive u) (lent : List ℕ) where
   past_one : length lent < length (limbs v.a) → length lent < length (limbs (number u v))
   past_one h = past_two (omega (arith, limbs-grow u.b ok.1 v.a v.b))
 
-  module _ (r₁ : Count) (out₁ : List ℕ) (p₁ : Pushed u.a v.a lent 0 r₁ out₁) where
+  module _ (r₁ : Option ℕ) (out₁ : List ℕ) (p₁ : Pushed u.a v.a lent 0 r₁ out₁) where
     put_one : Put (limbs v.a) lent r₁ out₁
     put_one =
         let e : 0 * u.a + v.a ≡ v.a = omega arith in
-        rw e at (put-more 0 lent (Words 0) lent (put-none lent) 0 refl u.a v.a ok.0 r₁ out₁ p₁)
+        rw e at (put-more 0 lent (Some 0) lent (put-none lent) 0 refl u.a v.a ok.0 r₁ out₁ p₁)
 
-    pub full-one : r₁ ≡ DontFit → length lent < length (limbs (number u v))
+    pub full-one : r₁ ≡ None → length lent < length (limbs (number u v))
     full-one e = past_one (put_full v.a lent r₁ out₁ put_one e)
 
-    module _ (n₁ : ℕ) (e₁ : r₁ ≡ Words n₁) where
+    module _ (n₁ : ℕ) (e₁ : r₁ ≡ Some n₁) where
       pub fits_one : n₁ ≤ length out₁
       fits_one = put-fits v.a lent r₁ out₁ put_one n₁ e₁
 
-      module _ (r₂ : Count) (out₂ : List ℕ) (p₂ : Pushed u.b v.b out₁ n₁ r₂ out₂) where
+      module _ (r₂ : Option ℕ) (out₂ : List ℕ) (p₂ : Pushed u.b v.b out₁ n₁ r₂ out₂) where
         put_two : Put (limbs (two u v)) lent r₂ out₂
         put_two = put-more v.a lent r₁ out₁ put_one n₁ e₁ u.b v.b ok.1 r₂ out₂ p₂
 
-        pub full-two : r₂ ≡ DontFit → length lent < length (limbs (number u v))
+        pub full-two : r₂ ≡ None → length lent < length (limbs (number u v))
         full-two e = past_two (put_full (two u v) lent r₂ out₂ put_two e)
 
-        module _ (n₂ : ℕ) (e₂ : r₂ ≡ Words n₂) where
+        module _ (n₂ : ℕ) (e₂ : r₂ ≡ Some n₂) where
           pub fits-two : n₂ ≤ length out₂
           fits-two = put-fits (two u v) lent r₂ out₂ put_two n₂ e₂
 
-          module _ (r₃ : Count) (out₃ : List ℕ) (p₃ : Pushed u.c v.c out₂ n₂ r₃ out₃) where
+          module _ (r₃ : Option ℕ) (out₃ : List ℕ) (p₃ : Pushed u.c v.c out₂ n₂ r₃ out₃) where
             put_three : Put (limbs (three u v)) lent r₃ out₃
             put_three = put-more (two u v) lent r₂ out₂ put_two n₂ e₂ u.c v.c ok.2 r₃ out₃ p₃
 
-            pub full-three : r₃ ≡ DontFit → length lent < length (limbs (number u v))
+            pub full-three : r₃ ≡ None → length lent < length (limbs (number u v))
             full-three e = past_three (put_full (three u v) lent r₃ out₃ put_three e)
 
-            module _ (n₃ : ℕ) (e₃ : r₃ ≡ Words n₃) where
+            module _ (n₃ : ℕ) (e₃ : r₃ ≡ Some n₃) where
               pub fits-three : n₃ ≤ length out₃
               fits-three = put-fits (three u v) lent r₃ out₃ put_three n₃ e₃
 
-              pub put_all : (r₄ : Count) (out₄ : List ℕ) → Pushed u.d v.d out₃ n₃ r₄ out₄ → Put (limbs (number u v)) lent r₄ out₄
+              pub put_all : (r₄ : Option ℕ) (out₄ : List ℕ) → Pushed u.d v.d out₃ n₃ r₄ out₄ → Put (limbs (number u v)) lent r₄ out₄
               put_all = put-more (three u v) lent r₃ out₃ put_three n₃ e₃ u.d v.d ok.3

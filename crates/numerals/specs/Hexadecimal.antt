@@ -1,5 +1,5 @@
 -- Hexadecimal numbers: where their digits begin to count, and the limbs from the last digits to the first.
-use Rattle.std.specs.Prelude.{◌≡◌, length, get_or, take, drop, set}
+use Rattle.std.specs.Prelude.{◌≡◌, Some, length, get_or, take, drop, set}
 use Rattle.std.proofs.Math.Path.{refl}
 use Rattle.std.proofs.Common.{sym, ◌∙◌, ap, arith, mul-le-mul_right, add-one, length-append, length-set, drop_of_length-le, take-append-drop, get_or-take, take_all, take-suc, take-suc-set, drop-set-lt, drop-drop}
 use Rattle.std.proofs.Math.Option.{Option, none, some}
@@ -8,7 +8,6 @@ use Prim.Native.Nat.{ℕ, zero, suc, ◌+◌, ◌-◌, ◌*◌, ◌/◌, ◌%◌
 use Rattle.std.proofs.Math.Seq.{length-take-le, append_snoc}
 use Rattle.std.proofs.lemmas.List.{drop-append-le}
 use Rattle.literals.specs.Numbers.{limb_base, limbs, nibble, digits}
-use Rattle.values.specs.declared.Count.TheVariants.{Words}
 use Rattle.numerals.specs.Limbs.{limbs-zero, limbs-more}
 use Rattle.values.specs.Kept.{Put}
 use Rattle.numerals.specs.Chunks.{from_byte, digits-some, digits-pass}
@@ -67,8 +66,11 @@ pub record Leading (source : List ℕ) (prefix i : ℕ) : Type 0 where
   pub some : (end : ℕ) → i < end → end ≤ length source → 0 < before source i end
 
 module _ (source : List ℕ) (prefix i : ℕ) (e : digits 16 0 (drop i source) ≡ digits 16 0 (drop prefix source)) where
-  pub leading-none : length source ≤ i → Leading source prefix i
-  leading-none h = record { same = e; some = λ end g k. absurd (omega arith) }
+  pub leading-none : length source ≤ i → Leading source prefix (length source)
+  leading-none h =
+      let over : drop i source ≡ [] = drop_of_length-le source h in
+      let all : drop (length source) source ≡ [] = drop_of_length-le source (omega arith) in
+      record { same = rw (all, ← over) e; some = λ end g k. absurd (omega arith) }
 
   module _ (c : ℕ) (ec : c ≡ get_or source i 0) (h : i < length source) where
     pub leading-pass : none ≡ nibble c → digits 16 0 (drop (i + 1) source) ≡ digits 16 0 (drop prefix source)
@@ -163,17 +165,17 @@ module _ (source : List ℕ) (prefix end : ℕ) (g : end ≤ length source) wher
           let b : before source prefix (i - 1 + 1) ≡ before source prefix (i - 1) = before-none source prefix (i - 1) (omega arith) inside (rw ec at e) in
           record { is = t.is ∙ rw (← b, back); fits = t.fits; within = omega (arith, t.within); many = t.many; few = t.few; counts = t.counts; first = λ f. absurd (omega (arith, t.within)) }
 
-      module _ (d : ℕ) (e : some d ≡ nibble c) (hd : d < 16) (x : ℕ) (ex : x ≡ d) where
-        pub digit-fits : x * unit ≤ 15 * unit
+      module _ (d : ℕ) (e : some d ≡ nibble c) (hd : d < 16) where
+        pub digit-fits : d * unit ≤ 15 * unit
         digit-fits = mul-le-mul_right unit (omega arith)
 
-        pub digits-next : Digits source prefix end (value + x * unit) (unit * 16) (i - 1)
+        pub digits-next : Digits source prefix end (value + d * unit) (unit * 16) (i - 1)
         unfolding top
         digits-next =
             let b : before source prefix (i - 1 + 1) ≡ before source prefix (i - 1) * 16 + d = before-some source prefix (i - 1) (omega arith) inside d (rw ec at e) in
             let k : before source prefix i ≡ before source prefix (i - 1) * 16 + d = rw back at b in
             record {
-              is = t.is ∙ rw (k, ex) (omega arith);
+              is = t.is ∙ rw k (omega arith);
               fits = omega (arith, t.fits, digit-fits);
               within = omega (arith, t.within);
               many = suc t.many;
@@ -203,7 +205,7 @@ module _ (source : List ℕ) (prefix first : ℕ) (lead : Leading source prefix 
     front : length (take n room) ≡ n
     front = length-take-le n room (omega (arith, t.fits, t.long))
 
-    pub limbed-last : end ≤ first → Put whole lent (Words n) room
+    pub limbed-last : end ≤ first → Put whole lent (Some n) room
     limbed-last h =
         let e : whole ≡ take n room = t.is ∙ rw (before-over source first end h t.within, limbs-zero, append-nil) in
         rw e (sym front, t.fits, rw (← t.behind) (sym (take-append-drop n room)))

@@ -17,8 +17,8 @@ sum_fits l r c hl hr hc =
 abbrev pub Parted : ℕ → ℕ → ℕ → Type 0
 Parted sum carry limb = (sum ≡ carry * limb_base + limb) × (limb < limb_base)
 
-pub sum-parted : (l r c x y z : ℕ) → x ≡ l → y ≡ r → z ≡ c → Parted (l * r + c) ((x * y + z) / limb_base) ((x * y + z) % limb_base)
-sum-parted l r c x y z ex ey ez = rw (ex, ey, ez) (omega arith, omega arith)
+pub sum-parted : (sum : ℕ) → Parted sum (sum / limb_base) (sum % limb_base)
+sum-parted sum = (omega arith, omega arith)
 
 pub record Times (radix digit : ℕ) (all ls : List ℕ) (carry i : ℕ) : Type 0 where
   pub made : take i ls ++ multiplied radix carry (drop i ls) ≡ multiplied radix digit all

@@ -4,7 +4,7 @@
 ghost use Rattle.std.specs.Prelude.{◌≡◌, ◌+◌, ◌*◌, ◌≤◌, ◌<◌, length, drop};
 ghost use Rattle.literals.specs.Numbers.{nibble, limbs, digits, number_value};
 ghost use Rattle.literals.specs.Spelling.{spelling};
-ghost use Rattle.definition.specs.Prog.{value, memory};
+ghost use Rattle.definition.specs.Prog.{value};
 ghost use Rattle.reading.specs.Does.{Does};
 ghost use Rattle.numerals.specs.Limbs.{multiplied, carried};
 ghost use Rattle.numerals.specs.Numbers.{radix_of, Pushed};
@@ -17,8 +17,9 @@ ghost use Rattle.values.specs.Kept.{Put, Kept};
 
 mod hexadecimal;
 
-use reading::{Maybe, Reading};
-use values::{Count, Stored, digit};
+use reading::Parser;
+use values::digit;
+use words::Refusal;
 
 // The radix of a number token.
 #[derive(Clone, Copy)]
@@ -31,12 +32,6 @@ pub enum Base {
 // One limb is one word.
 const LIMB_BASE: u64 = 4294967296;
 
-fn wide(x: u32) -> u64
-    ensures { result ≡ x }
-{
-    x as u64
-}
-
 // A limb of a product, and what is carried on to the next.
 #[derive(Clone, Copy)]
 pub(crate) struct Product {
@@ -48,7 +43,7 @@ pub(crate) struct Product {
 fn limb_times(limb: u32, radix: u32, carry: u32) -> Product
     ensures { Parted (limb * radix + carry) result.carry result.limb }
 {
-    let sum = wide(limb) * wide(radix) + wide(carry);
+    let sum = limb as u64 * radix as u64 + carry as u64;
     Product {
         limb: (sum % LIMB_BASE) as u32,
         carry: (sum / LIMB_BASE) as u32,
@@ -60,30 +55,28 @@ fn times(limbs: &mut [u32], radix: u32, digit: u32) -> u32
     ensures { (result ≡ carried radix digit limbs.old) × (limbs.new ≡ multiplied radix digit limbs.old) }
 {
     let mut carry = digit;
-    let mut i = 0;
-    while i < limbs.len() {
-        let p = limb_times(limbs[i], radix, carry);
-        limbs[i] = p.limb;
+    for limb in limbs.iter_mut() {
+        let p = limb_times(*limb, radix, carry);
+        *limb = p.limb;
         carry = p.carry;
-        i += 1;
     }
     carry
 }
 
 // One digit more, or some that make one of a larger radix, to the number whose `n` limbs stand in front of `room`.
-fn push(room: &mut [u32], n: usize, radix: u32, digit: u32) -> Count
+fn push(room: &mut [u32], n: usize, radix: u32, digit: u32) -> Option<usize>
     requires { n ≤ length room.old }
     ensures { Pushed radix digit room.old n result room.new }
 {
     let carry = times(&mut room[..n], radix, digit);
     if carry == 0 {
-        return Count::Words(n);
+        return Some(n);
     }
     if room.len() <= n {
-        return Count::DontFit;
+        return None;
     }
     room[n] = carry;
-    Count::Words(n + 1)
+    Some(n + 1)
 }
 
 // Four chunks of digits, the first one first: their units, or their values, or what each carries on.
@@ -100,51 +93,41 @@ fn times_four(limbs: &mut [u32], units: Four, values: Four) -> Four
     ensures { (number units result ≡ carried (unit units) (number units values) limbs.old) × (limbs.new ≡ multiplied (unit units) (number units values) limbs.old) }
 {
     let mut carry = values;
-    let mut i = 0;
-    while i < limbs.len() {
-        let a = limb_times(limbs[i], units.a, carry.a);
+    for limb in limbs.iter_mut() {
+        let a = limb_times(*limb, units.a, carry.a);
         let b = limb_times(a.limb, units.b, carry.b);
         let c = limb_times(b.limb, units.c, carry.c);
         let d = limb_times(c.limb, units.d, carry.d);
-        limbs[i] = d.limb;
+        *limb = d.limb;
         carry = Four {
             a: a.carry,
             b: b.carry,
             c: c.carry,
             d: d.carry,
         };
-        i += 1;
     }
     carry
 }
 
 // The limbs of the number that four chunks make, in front of `room`.
-fn put_four(room: &mut [u32], units: Four, values: Four) -> Count
+fn put_four(room: &mut [u32], units: Four, values: Four) -> Option<usize>
     requires { Positive units }
     ensures { Put (limbs (number units values)) room.old result room.new }
 {
-    let Count::Words(a) = push(room, 0, units.a, values.a) else {
-        return Count::DontFit;
-    };
-    let Count::Words(b) = push(room, a, units.b, values.b) else {
-        return Count::DontFit;
-    };
-    let Count::Words(c) = push(room, b, units.c, values.c) else {
-        return Count::DontFit;
-    };
+    let a = push(room, 0, units.a, values.a)?;
+    let b = push(room, a, units.b, values.b)?;
+    let c = push(room, b, units.c, values.c)?;
     push(room, c, units.d, values.d)
 }
 
 // Four chunks of digits more. What is carried past the last limb is a number of its own.
-fn push_four(room: &mut [u32], n: usize, units: Four, values: Four) -> Count
+fn push_four(room: &mut [u32], n: usize, units: Four, values: Four) -> Option<usize>
     requires { (n ≤ length room.old) × Positive units }
     ensures { Pushed (unit units) (number units values) room.old n result room.new }
 {
     let carry = times_four(&mut room[..n], units, values);
-    match put_four(&mut room[n..], units, carry) {
-        Count::Words(m) => Count::Words(n + m),
-        Count::DontFit => Count::DontFit,
-    }
+    let m = put_four(&mut room[n..], units, carry)?;
+    Some(n + m)
 }
 
 // Some digits: what they make, what a number before them is multiplied by, and where the next ones stand.
@@ -156,15 +139,13 @@ pub(crate) struct Digits {
 }
 
 // `nibble`, where 0 to 9 are expected: they are told first.
-fn digit_of(c: u32) -> Maybe
+fn digit_of(c: u32) -> Option<u32>
     ensures { (option result ≡ nibble c) × Under 16 result }
 {
-    if 48 <= c {
-        if c <= 57 {
-            return Maybe::Some(c - 48);
-        }
+    match c {
+        48..=57 => Some(c - 48),
+        _ => digit::nibble(c),
     }
-    digit::nibble(c)
 }
 
 // A unit below which a digit more fits, also one above the radix.
@@ -178,6 +159,7 @@ fn chunk_at(source: &[u8], i: usize, radix: u32) -> Digits
     let mut value = 0;
     let mut unit = 1;
     let mut j = i;
+    // A `for` was tried: short numbers took a fifth longer.
     while j < source.len() {
         if SMALL_UNIT <= unit {
             return Digits {
@@ -188,12 +170,9 @@ fn chunk_at(source: &[u8], i: usize, radix: u32) -> Digits
         }
         let c = source[j] as u32;
         j += 1;
-        match digit_of(c) {
-            Maybe::Some(digit) => {
-                value = value * radix + digit;
-                unit *= radix;
-            }
-            Maybe::None => {}
+        if let Some(digit) = digit_of(c) {
+            value = value * radix + digit;
+            unit *= radix;
         }
     }
     Digits {
@@ -203,10 +182,10 @@ fn chunk_at(source: &[u8], i: usize, radix: u32) -> Digits
     }
 }
 
-// How many limbs a number has with some digits more, and where the next ones stand.
+// How many limbs a number has with some digits more, if there is room for them, and where the next ones stand.
 #[derive(Clone, Copy)]
 pub(crate) struct Taken {
-    pub count: Count,
+    pub count: Option<usize>,
     pub next: usize,
 }
 
@@ -249,52 +228,44 @@ fn put_fours(source: &[u8], prefix: usize, radix: u32, room: &mut [u32]) -> Take
 {
     let mut n = 0;
     let mut i = prefix;
+    // The step isn't one: it is as many bytes as four chunks take.
     while i < source.len() {
         if source.len() - i < FOUR_CHUNKS {
             return Taken {
-                count: Count::Words(n),
+                count: Some(n),
                 next: i,
             };
         }
         let t = take_four(source, i, radix, room, n);
         i = t.next;
-        let count = t.count;
-        match count {
-            Count::Words(m) => n = m,
-            Count::DontFit => return t,
-        }
+        let Some(m) = t.count else { return t };
+        n = m;
     }
     Taken {
-        count: Count::Words(n),
+        count: Some(n),
         next: i,
     }
 }
 
 // The limbs of the number that the digits of `source` from `prefix` on make, in front of `room`, chunk by chunk.
-fn put_chunks(source: &[u8], prefix: usize, radix: u32, room: &mut [u32]) -> Count
+fn put_chunks(source: &[u8], prefix: usize, radix: u32, room: &mut [u32]) -> Option<usize>
     requires { Radix radix }
     ensures { Put (limbs (digits radix 0 (drop prefix source.now))) room.old result room.new }
 {
     let t = put_fours(source, prefix, radix, room);
-    let count = t.count;
-    let Count::Words(fours) = count else {
-        return Count::DontFit;
-    };
-    let mut n = fours;
+    let mut n = t.count?;
     let mut i = t.next;
+    // The step isn't one: it is as many bytes as a chunk takes.
     while i < source.len() {
         let p = chunk_at(source, i, radix);
         i = p.next;
-        match push(room, n, p.unit, p.value) {
-            Count::Words(m) => n = m,
-            Count::DontFit => return Count::DontFit,
-        }
+        n = push(room, n, p.unit, p.value)?;
     }
-    Count::Words(n)
+    Some(n)
 }
 
 // The same; hexadecimal digits make limbs of their own.
-fn put(source: &[u8], prefix: usize, radix: u32, room: &mut [u32]) -> Count
+fn put(source: &[u8], prefix: usize, radix: u32, room: &mut [u32]) -> Option<usize>
     requires { Radix radix }
     ensures { Put (limbs (digits radix 0 (drop prefix source.now))) room.old result room.new }
 {
@@ -305,21 +276,17 @@ fn put(source: &[u8], prefix: usize, radix: u32, room: &mut [u32]) -> Count
 }
 
 // The value of a number, stored from word `at` on: where it ends.
-fn store(values: &mut [u32], at: usize, source: &[u8], prefix: usize, radix: u32) -> Count
+fn store(values: &mut [u32], at: usize, source: &[u8], prefix: usize, radix: u32) -> Option<usize>
     requires { Radix radix }
     ensures { Kept (number_value (digits radix 0 (drop prefix source.now))) values.old at result values.new }
 {
     if values.len() <= at {
-        return Count::DontFit;
+        return None;
     }
     let start = at + 1;
-    match put(source, prefix, radix, &mut values[start..]) {
-        Count::Words(n) => {
-            values[at] = values::head(words::value::NUMBER, n);
-            Count::Words(start + n)
-        }
-        Count::DontFit => Count::DontFit,
-    }
+    let n = put(source, prefix, radix, &mut values[start..])?;
+    values[at] = values::head(words::value::NUMBER, n);
+    Some(start + n)
 }
 
 fn radix(base: Base) -> u32
@@ -332,35 +299,33 @@ fn radix(base: Base) -> u32
     }
 }
 
-// The value of a number token, past the `prefix` of its spelling, stored where the next value goes.
-pub fn number(
-    d: u32,
-    s: Reading,
+// The value of a number token, past the `prefix` of its spelling, stored from word `at` on: where it ends.
+fn store_token(
+    values: &mut [u32],
+    at: usize,
     text: &[u8],
     tokens: &[u32],
-    nodes: &mut [u32],
-    values: &mut [u32],
-    reports: &mut [u32],
     token: u32,
     base: Base,
     prefix: usize,
-) -> Stored
-    ensures { Does text.now tokens.now d (value (number_value (digits (radix_of base) 0 (drop prefix (spelling text.now tokens.now token))))) s (memory nodes.old values.old reports.old) result.it result.at (memory nodes.new values.new reports.new) }
+) -> Option<usize>
+    ensures { Kept (number_value (digits (radix_of base) 0 (drop prefix (spelling text.now tokens.now token)))) values.old at result values.new }
 {
-    let state = s.state;
-    let at = state.values;
-    if s.refusal != 0 {
-        return Stored { it: at, at: s };
-    }
     let source = lexer::spelling(text, tokens, token as usize);
-    match store(values, at, source, prefix, radix(base)) {
-        Count::Words(end) => {
-            let then = values::past(s, end);
-            Stored { it: at, at: then }
-        }
-        Count::DontFit => {
-            let full = reading::refuse(s, words::refusal::VALUES_DONT_FIT);
-            Stored { it: at, at: full }
-        }
+    store(values, at, source, prefix, radix(base))
+}
+
+// The same, stored where the next value goes.
+pub fn number(p: &mut Parser, token: u32, base: Base, prefix: usize) -> usize
+    ensures { Does (value (number_value (digits (radix_of base) 0 (drop prefix (spelling p.old.text.now p.old.tokens.now token))))) p.old result p.new }
+{
+    let at = p.state.values;
+    if p.is_refused() {
+        return at;
     }
+    match store_token(p.values, at, p.text, p.tokens, token, base, prefix) {
+        Some(end) => values::past(p, end),
+        None => p.refuse(Refusal::ValuesDontFit),
+    }
+    at
 }

@@ -1,22 +1,26 @@
 -- Programs that leave the values alone: what they do over other values, they do over these, and the next value stays where it goes.
-use Rattle.std.specs.Prelude.{◌≡◌, Bool, eqb, leb, length}
+use Rattle.std.specs.Prelude.{◌≡◌, Option, Some, None, Bool, leb, length}
 use Rattle.std.proofs.Math.Path.{refl}
-use Rattle.std.proofs.Common.{sym, ◌∙◌, ap, arith}
+use Rattle.std.proofs.Common.{sym, ◌∙◌, ap}
 use Rattle.std.proofs.Math.Bool.{true, false}
 use mathlib.Core.List.{List, [], ◌∷◌}
 use Prim.Native.Nat.{ℕ, zero, suc, ◌+◌, ◌*◌, ◌-◌}
-use Rattle.words.specs.Token.{is_trivia, lex_error}
-use Rattle.words.specs.declared.token.LexError.{LexError}
-use Rattle.words.specs.declared.token.LexError.TheVariants.{Is, Nothing}
+use Rattle.words.specs.Refusal.{number}
+use Rattle.words.specs.declared.refusal.Refused.{Refused}
+use Rattle.words.specs.declared.error_token.ErrorToken.{ErrorToken}
+use Rattle.words.specs.ErrorToken.{error_number}
+use Rattle.words.specs.Token.{is_trivia, lex_error, LexError}
 use Rattle.words.specs.Words.{report_width}
 use Rattle.literals.specs.declared.Span.{Span}
 use Rattle.literals.specs.Strings.{Event, byte, report}
 use Rattle.definition.specs.declared.State.{State}
 use Rattle.definition.specs.Prog.{Prog, Memory, memory, Out, done, refused, bind, with_values, reported, kind_at, is_marked, passed, skipped, peek, pass, eval}
 use Rattle.definition.specs.Strings.{emit_events}
-use Rattle.reading.specs.declared.Reading.{Reading}
+use Rattle.reading.specs.declared.parser.Parser.{Parser}
 use Rattle.reading.specs.Source.{Right}
+use Rattle.reading.specs.Standing.{is_refused, words}
 use Rattle.reading.specs.Does.{Does, view, run, from}
+use Rattle.values.specs.Kept.{lending, lent-kept}
 use Rattle.decoder.specs.Decodes.{unrefused}
 
 -- What a program comes to, with other values, and with the next one at a place.
@@ -60,15 +64,15 @@ module _ (text tokens : List ℕ) where
   unfolding passed
   passed-alone s ns vs lent rs = go (lex_error (kind_at text tokens s.cursor)) refl
     where
-      told : (error : ℕ) → lex_error (kind_at text tokens s.cursor) ≡ Is error → (t : Bool) → is_marked s ≡ t
+      told : (error : ErrorToken) → lex_error (kind_at text tokens s.cursor) ≡ Some error → (t : Bool) → is_marked s ≡ t
           → passed text tokens s (memory ns lent rs) ≡ over s.values lent (passed text tokens s (memory ns vs rs))
       told error e true f = rw (e, f, passed)
-      told error e false f = rw (e, f, passed) (reported-alone _ error _ _ ns vs lent rs)
+      told error e false f = rw (e, f, passed) (reported-alone _ (error_number error) _ _ ns vs lent rs)
 
       go : (l : LexError) → lex_error (kind_at text tokens s.cursor) ≡ l
           → passed text tokens s (memory ns lent rs) ≡ over s.values lent (passed text tokens s (memory ns vs rs))
-      go Nothing e = rw (e, passed)
-      go (Is error) e = told error e (is_marked s) refl
+      go None e = rw (e, passed)
+      go (Some error) e = told error e (is_marked s) refl
 
   skipped-alone : (left : ℕ) → Alone (skipped text tokens left)
   unfolding skipped
@@ -80,56 +84,54 @@ module _ (text tokens : List ℕ) where
       go ih true e = rw (e, skipped) (alone_bind (passed text tokens) (λ _ t n. skipped text tokens left t n) passed-alone (λ _. ih) s ns vs lent rs)
       go ih false e = rw (e, skipped)
 
-  module _ (d : ℕ) where
-    pub peek-alone : Alone (run text tokens d peek)
-    unfolding eval
-    peek-alone s ns vs lent rs =
-        alone_bind (skipped text tokens (s.cursor.end - s.cursor.at)) (λ _ t n. done (kind_at text tokens t.cursor) t n) (skipped-alone (s.cursor.end - s.cursor.at))
-        (λ _ t ms us ks qs. refl) s ns vs lent rs
+module _ (p : Parser) where
+  pub peek-alone : Alone (run p peek)
+  unfolding eval
+  peek-alone s ns vs lent rs =
+      alone_bind (skipped p.text.now p.tokens.now (s.cursor.end - s.cursor.at)) (λ _ t n. done (kind_at p.text.now p.tokens.now t.cursor) t n)
+      (skipped-alone p.text.now p.tokens.now (s.cursor.end - s.cursor.at)) (λ _ t ms us ks qs. refl) s ns vs lent rs
 
-    pub pass_alone : Alone (run text tokens d pass)
-    unfolding eval
-    pass_alone s ns vs lent rs =
-        alone_bind (skipped text tokens (s.cursor.end - s.cursor.at)) (λ _ t n. passed text tokens t n) (skipped-alone (s.cursor.end - s.cursor.at)) (λ _. passed-alone) s ns vs lent rs
+  pub pass_alone : Alone (run p pass)
+  unfolding eval
+  pass_alone s ns vs lent rs =
+      alone_bind (skipped p.text.now p.tokens.now (s.cursor.end - s.cursor.at)) (λ _ t n. passed p.text.now p.tokens.now t n)
+      (skipped-alone p.text.now p.tokens.now (s.cursor.end - s.cursor.at)) (λ _. passed-alone p.text.now p.tokens.now) s ns vs lent rs
 
-    pub events-alone : (es : List Event) → Alone (run text tokens d (emit_events es))
-    unfolding eval emit_events
-    events-alone [] s ns vs lent rs = refl
-    events-alone (byte b ∷ es) s ns vs lent rs = events-alone es s ns vs lent rs
-    events-alone (report kind detail p ∷ es) s ns vs lent rs =
-        alone_bind (reported kind detail p) (λ _ t n. run text tokens d (emit_events es) t n) (reported-alone kind detail p) (λ _. events-alone es) s ns vs lent rs
+  pub events-alone : (es : List Event) → Alone (run p (emit_events es))
+  unfolding eval emit_events
+  events-alone [] s ns vs lent rs = refl
+  events-alone (byte b ∷ es) s ns vs lent rs = events-alone es s ns vs lent rs
+  events-alone (report kind detail q ∷ es) s ns vs lent rs =
+      alone_bind (reported kind detail q) (λ _ t n. run p (emit_events es) t n) (reported-alone kind detail q) (λ _. events-alone es) s ns vs lent rs
 
 -- The same of functions.
-module _ {A : Type 0} {text tokens : List ℕ} {d : ℕ} {p : Prog A} {r r' : Reading} {ns vs rs ns' vs' rs' : List ℕ} {a : A} where
-  pub does-same : Alone (run text tokens d p) → Does text tokens d p r (memory ns vs rs) a r' (memory ns' vs' rs') → Right text tokens → r'.refusal ≡ 0
-      → (vs' ≡ vs) × (r'.state.values ≡ r.state.values)
-  does-same al e w h =
-      let g : done a r'.state (memory ns' vs' rs') ≡ run text tokens d p r.state (memory ns vs rs) = (unrefused e w h).1 in
-      let o = done a r'.state (memory ns' vs' rs') in
-      let k : o ≡ over r.state.values vs o = g ∙ (al r.state ns vs vs rs ∙ ap (over r.state.values vs) (sym g)) in
-      (ap (λ (x : Out A). (memory_of (memory [] [] []) x).values) k, ap (λ (x : Out A). (state_of r.state x).values) k)
+module _ {A : Type 0} {c : Prog A} {p p' : Parser} {a : A} (al : Alone (run p c)) (e : Does c p a p') where
+  abbrev at : ℕ
+  at = p.state.values
 
-  pub does-over : Alone (run text tokens d p) → Does text tokens d p r (memory ns vs rs) a r' (memory ns' vs' rs') → (lent : List ℕ)
-      → Does text tokens d p r (memory ns lent rs) a r' (memory ns' lent rs')
-  does-over al e lent = record { is = λ w. go (e.is w) (eqb r.refusal 0) (eqb r'.refusal 0) refl refl }
+  -- One that goes on is so over the values as they are.
+  still : done a p'.state (words p') ≡ run p c p.state (words p) → done a p'.state (words p') ≡ over at p.values.now (done a p'.state (words p'))
+  still g = g ∙ (al p.state p.nodes.now p.values.now p.values.now p.reports.now ∙ ap (over at p.values.now) (sym g))
+
+  pub does-same : Right p.text.now p.tokens.now → is_refused p' ≡ false → (p'.values.now ≡ p.values.now) × (p'.state.values ≡ at)
+  does-same w h =
+      let k = still (unrefused e w h).1 in
+      (ap (λ (x : Out A). (memory_of (memory [] [] []) x).values) k, ap (λ (x : Out A). (state_of p.state x).values) k)
+
+  pub does-over : (lent : List ℕ) → Does c (lending p lent) a (lending p' lent)
+  does-over lent = record { is = λ w. go (e.is w) p.refused p'.refused refl refl; kept = lent-kept e.kept lent }
     where
-      at : ℕ
-      at = r.state.values
-
-      go : view a r' (memory ns' vs' rs') ≡ from r (memory ns vs rs) (run text tokens d p) → (t u : Bool) → eqb r.refusal 0 ≡ t → eqb r'.refusal 0 ≡ u
-          → from r' (memory ns' lent rs') (λ s m. done a s m) ≡ from r (memory ns lent rs) (run text tokens d p)
-      go is true true et eu =
-          let f : done a r'.state (memory ns' vs' rs') ≡ run text tokens d p r.state (memory ns vs rs) = rw (et, eu) at is in
-          let o = done a r'.state (memory ns' vs' rs') in
-          let k : o ≡ over at vs o = f ∙ (al r.state ns vs vs rs ∙ ap (over at vs) (sym f)) in
-          let z : r'.state ≡ with_values at r'.state = ap (state_of r.state) k in
-          rw (et, eu, al r.state ns vs lent rs, ← f) (ap (λ (x : State). done a x (memory ns' lent rs')) z)
-      go is true false et eu =
-          let f : refused r'.refusal r'.place ≡ run text tokens d p r.state (memory ns vs rs) = rw (et, eu) at is in
-          rw (et, eu, al r.state ns vs lent rs, ← f)
-      go is false true et eu =
-          let f : ◌≡◌ {A = Out A} (done a r'.state (memory ns' vs' rs')) (refused r.refusal r.place) = rw (et, eu) at is in
-          absurd (let z : ◌≡◌ {A = ℕ} 0 1 = cc in omega arith)
-      go is false false et eu =
-          let f : ◌≡◌ {A = Out A} (refused r'.refusal r'.place) (refused r.refusal r.place) = rw (et, eu) at is in
+      go : view a p' ≡ from p (run p c) → (t u : Option Refused) → p.refused ≡ t → p'.refused ≡ u → view a (lending p' lent) ≡ from (lending p lent) (run p c)
+      go is None None et eu =
+          let f : done a p'.state (words p') ≡ run p c p.state (words p) = rw (et, eu) at is in
+          let z : p'.state ≡ with_values at p'.state = ap (state_of p.state) (still f) in
+          rw (et, eu, al p.state p.nodes.now p.values.now lent p.reports.now, ← f) (ap (λ (x : State). done a x (words (lending p' lent))) z)
+      go is None (Some y) et eu =
+          let f : refused (number y.refusal) y.place ≡ run p c p.state (words p) = rw (et, eu) at is in
+          rw (et, eu, al p.state p.nodes.now p.values.now lent p.reports.now, ← f)
+      go is (Some x) None et eu =
+          let f : ◌≡◌ {A = Out A} (done a p'.state (words p')) (refused (number x.refusal) x.place) = rw (et, eu) at is in
+          absurd cc
+      go is (Some x) (Some y) et eu =
+          let f : ◌≡◌ {A = Out A} (refused (number y.refusal) y.place) (refused (number x.refusal) x.place) = rw (et, eu) at is in
           rw (et, eu) f

@@ -1,7 +1,7 @@
 // The parser as a whole. `parse` is no public call: reading begins with the crate plank.
 #![tactic(auto)]
 
-ghost use Rattle.std.specs.Prelude.{◌≡◌, true, ◌≤◌, length};
+ghost use Rattle.std.specs.Prelude.{◌≡◌, true, ◌≤◌, ◌<◌, length};
 ghost use Rattle.definition.specs.Prog.{memory};
 ghost use Rattle.definition.specs.Parse.{token_limit, parsed};
 ghost use Rattle.reading.specs.Source.{Right};
@@ -11,15 +11,18 @@ ghost use Rattle.parser.specs.Answers.{given, zeroed, begun, parsed_text};
 use declarations::parse_file;
 use definition::{Cursor, State};
 use lexer::LONGEST_TEXT;
-use reading::Reading;
-use words::refusal;
+use reading::Parser;
+use words::{Refusal, Refused};
 
-// What parsing answers: the counts of nodes, value words and reports, or a refusal's number and place.
-#[derive(Clone, Copy)]
-pub enum Parsed {
-    Counts(u32, usize, usize),
-    Refused(u32, u32),
+// How many nodes, value words and reports there are.
+#[derive(Clone, Copy, Debug, PartialEq, Eq)]
+pub struct Counts {
+    pub nodes: u32,
+    pub values: usize,
+    pub reports: usize,
 }
+
+pub type Parsed = Result<Counts, Refused>;
 
 pub fn clear(words: &mut [u32])
     ensures { words.new ≡ zeroed words.old }
@@ -39,24 +42,19 @@ fn token_limit(tokens: &[u32]) -> u32
 }
 
 // Where reading begins.
-fn begin(tokens: &[u32]) -> Reading
+fn begin(tokens: &[u32]) -> State
     ensures { result ≡ begun tokens.now }
 {
     let cursor = Cursor {
         at: 0,
         end: token_limit(tokens),
     };
-    let state = State {
+    State {
         cursor,
         mark: 0,
         nodes: 0,
         values: 0,
         reports: 0,
-    };
-    Reading {
-        state,
-        refusal: 0,
-        place: 0,
     }
 }
 
@@ -79,17 +77,28 @@ fn parse_source(
     clear(nodes);
     clear(values);
     clear(reports);
-    let s = begin(tokens);
-    let file = parse_file(MAX_DEPTH, s, source, tokens, nodes, values, reports);
-    let at = file.at;
-    if at.refusal != 0 {
-        clear(nodes);
-        clear(values);
-        clear(reports);
-        return Parsed::Refused(at.refusal, at.place);
+    let mut p = Parser {
+        text: source,
+        tokens,
+        nodes,
+        values,
+        reports,
+        levels: MAX_DEPTH,
+        state: begin(tokens),
+        refused: None,
+    };
+    parse_file(&mut p);
+    if let Some(refused) = p.refused {
+        clear(p.nodes);
+        clear(p.values);
+        clear(p.reports);
+        return Err(refused);
     }
-    let state = at.state;
-    Parsed::Counts(state.nodes, state.values, state.reports)
+    Ok(Counts {
+        nodes: p.state.nodes,
+        values: p.state.values,
+        reports: p.state.reports,
+    })
 }
 
 // The source is parsed where one was made of the text, else the text itself.
@@ -111,35 +120,19 @@ fn parse_annotated(
     parse_source(text, tokens, nodes, values, reports)
 }
 
-// A table of names is made first, so that each name is looked up in one step.
-fn parse_short(
+// A table of names is made first, so that each name is looked up in one step. As `annotate` is called at two sizes it stays a function of
+// its own, and what it fills lies on the stack no longer while the text is parsed.
+fn parse_with_table<const BYTES: usize>(
     text: &[u8],
     tokens: &[u32],
     nodes: &mut [u32],
     values: &mut [u32],
     reports: &mut [u32],
 ) -> Parsed
-    requires { length text.now ≤ 65536 }
+    requires { (length text.now ≤ 65536) × (BYTES < 9223372036854775808) }
     ensures { given result (memory nodes.new values.new reports.new) ≡ parsed text.now tokens.now (length nodes.old) (length values.old) (length reports.old) }
 {
-    let mut source = [0u8; interner::SHORT_SOURCE_BYTES];
-    let made = interner::annotate(text, tokens, &mut source);
-    parse_annotated(made, &source, text, tokens, nodes, values, reports)
-}
-
-// The same with a source for any text. As `annotate` is called from two places it stays a function of its own, and what it fills lies
-// on the stack no longer while the text is parsed.
-fn parse_long(
-    text: &[u8],
-    tokens: &[u32],
-    nodes: &mut [u32],
-    values: &mut [u32],
-    reports: &mut [u32],
-) -> Parsed
-    requires { length text.now ≤ 65536 }
-    ensures { given result (memory nodes.new values.new reports.new) ≡ parsed text.now tokens.now (length nodes.old) (length values.old) (length reports.old) }
-{
-    let mut source = [0u8; interner::SOURCE_BYTES];
+    let mut source = [0u8; BYTES];
     let made = interner::annotate(text, tokens, &mut source);
     parse_annotated(made, &source, text, tokens, nodes, values, reports)
 }
@@ -159,13 +152,15 @@ pub fn parse(
         clear(nodes);
         clear(values);
         clear(reports);
-        return Parsed::Refused(refusal::TOO_LONG, LONGEST_TEXT as u32);
+        return Err(Refusal::TooLong.at(LONGEST_TEXT as u32));
     }
     if tokens.len() <= FEW_TOKENS {
         return parse_source(text, tokens, nodes, values, reports);
     }
     if text.len() <= interner::SHORT_TEXT {
-        return parse_short(text, tokens, nodes, values, reports);
+        return parse_with_table::<{ interner::SHORT_SOURCE_BYTES }>(
+            text, tokens, nodes, values, reports,
+        );
     }
-    parse_long(text, tokens, nodes, values, reports)
+    parse_with_table::<{ interner::SOURCE_BYTES }>(text, tokens, nodes, values, reports)
 }

@@ -1,14 +1,13 @@
 // What the readers of expressions are made of: readings that call no reader themselves.
 #![tactic(auto)]
 
-ghost use Rattle.definition.specs.Prog.{memory};
 ghost use Rattle.definition.specs.Nodes.{skip_trivia_start, alloc_last_token_as_node};
 ghost use Rattle.definition.specs.Expressions.{check_binary_op, eat_unary, unwrap_or_error, access_name, member_expr, eats};
 ghost use Rattle.reading.specs.Does.{Does};
 ghost use Rattle.cst.specs.Cst.{maybe};
 ghost use Rattle.answers.specs.Parts.{element, operator, push_close, end_stmt, close_into, close_if, close_block, add_element, open_binary, close_operand, stmt_result, literal, boolean, named, no_access_name};
 
-use answers::{Element, Listed, Operator, Stmt, StmtResult, binary_of, is_some, unary_of};
+use answers::{Binary, StmtResult, binary_of, unary_of};
 use cst::{
     alloc_last_token_as_node, close_node, error_node, open_from, open_here, push_child,
     push_closing,
@@ -17,452 +16,180 @@ use definition::Unfinished;
 use names::{try_parse_builtin_name, try_parse_ident};
 use operands::numbers::num_literal;
 use operands::strings::try_parse_string_literal;
-use reading::{Found, Got, Maybe, Opened, Reading};
+use reading::Parser;
 use stream::{contains, eat, emit_unexpected, expect, pass, peek};
 use words::{flag, node, token};
 
 // Where the next token is.
-pub fn skip_trivia_start(
-    d: u32,
-    s: Reading,
-    text: &[u8],
-    tokens: &[u32],
-    nodes: &mut [u32],
-    values: &mut [u32],
-    reports: &mut [u32],
-) -> Got
-    ensures { Does text.now tokens.now d skip_trivia_start s (memory nodes.old values.old reports.old) result.it result.at (memory nodes.new values.new reports.new) }
+pub fn skip_trivia_start(p: &mut Parser) -> u32
+    ensures { Does skip_trivia_start p.old result p.new }
 {
-    let next = peek(d, s, text, tokens, nodes, values, reports);
-    let at = next.at;
-    let state = at.state;
-    let cursor = state.cursor;
-    Got { it: cursor.at, at }
+    peek(p);
+    p.state.cursor.at
 }
 
 // ---- operators
 
-pub fn eat_unary(
-    d: u32,
-    s: Reading,
-    text: &[u8],
-    tokens: &[u32],
-    nodes: &mut [u32],
-    values: &mut [u32],
-    reports: &mut [u32],
-) -> Found
-    ensures { Does text.now tokens.now d eat_unary s (memory nodes.old values.old reports.old) (maybe result.it) result.at (memory nodes.new values.new reports.new) }
+pub fn eat_unary(p: &mut Parser) -> Option<u32>
+    ensures { Does eat_unary p.old (maybe result) p.new }
 {
-    let next = peek(d, s, text, tokens, nodes, values, reports);
-    let at = next.at;
-    match unary_of(next.it) {
-        Maybe::None => Found {
-            it: Maybe::None,
-            at,
-        },
-        Maybe::Some(op) => {
-            let past = pass(d, at, text, tokens, nodes, values, reports);
-            Found {
-                it: Maybe::Some(op),
-                at: past,
-            }
-        }
+    let found = unary_of(peek(p));
+    if found.is_some() {
+        pass(p);
     }
+    found
 }
 
-pub fn check_binary_op(
-    d: u32,
-    s: Reading,
-    text: &[u8],
-    tokens: &[u32],
-    nodes: &mut [u32],
-    values: &mut [u32],
-    reports: &mut [u32],
-) -> Operator
-    ensures { Does text.now tokens.now d check_binary_op s (memory nodes.old values.old reports.old) (operator result.it) result.at (memory nodes.new values.new reports.new) }
+pub fn check_binary_op(p: &mut Parser) -> Option<Binary>
+    ensures { Does check_binary_op p.old (operator result) p.new }
 {
-    let next = peek(d, s, text, tokens, nodes, values, reports);
-    let it = binary_of(next.it);
-    let at = next.at;
-    Operator { it, at }
+    binary_of(peek(p))
 }
 
 // `.unwrap_or_else(|| { self.emit_unexpected(); .. })`
-pub fn unwrap_or_error(
-    d: u32,
-    s: Reading,
-    text: &[u8],
-    tokens: &[u32],
-    nodes: &mut [u32],
-    values: &mut [u32],
-    reports: &mut [u32],
-    found: Maybe,
-) -> Got
-    ensures { Does text.now tokens.now d (unwrap_or_error (maybe found)) s (memory nodes.old values.old reports.old) result.it result.at (memory nodes.new values.new reports.new) }
+pub fn unwrap_or_error(p: &mut Parser, found: Option<u32>) -> u32
+    ensures { Does (unwrap_or_error (maybe found)) p.old result p.new }
 {
     match found {
-        Maybe::Some(n) => Got { it: n, at: s },
-        Maybe::None => {
-            let told = emit_unexpected(d, s, text, tokens, nodes, values, reports);
-            error_node(d, told, text, tokens, nodes, values, reports)
+        Some(n) => n,
+        None => {
+            emit_unexpected(p);
+            error_node(p)
         }
     }
 }
 
 // A node's last child, which may be missing, and its end.
-pub fn close_operand(
-    d: u32,
-    s: Reading,
-    text: &[u8],
-    tokens: &[u32],
-    nodes: &mut [u32],
-    values: &mut [u32],
-    reports: &mut [u32],
-    u: Unfinished,
-    found: Maybe,
-) -> Got
-    ensures { Does text.now tokens.now d (close_operand u (maybe found)) s (memory nodes.old values.old reports.old) result.it result.at (memory nodes.new values.new reports.new) }
+pub fn close_operand(p: &mut Parser, u: Unfinished, found: Option<u32>) -> u32
+    ensures { Does (close_operand u (maybe found)) p.old result p.new }
 {
-    let child = unwrap_or_error(d, s, text, tokens, nodes, values, reports, found);
-    let u = push_child(
-        d, child.at, text, tokens, nodes, values, reports, u, child.it,
-    );
-    close_node(d, u.at, text, tokens, nodes, values, reports, u.it)
+    let child = unwrap_or_error(p, found);
+    let u = push_child(p, u, child);
+    close_node(p, u)
 }
 
 // A binary expression up to its right operand.
-pub fn open_binary(
-    d: u32,
-    s: Reading,
-    text: &[u8],
-    tokens: &[u32],
-    nodes: &mut [u32],
-    values: &mut [u32],
-    reports: &mut [u32],
-    start: u32,
-    left: u32,
-    op: u32,
-) -> Opened
-    ensures { Does text.now tokens.now d (open_binary start left op) s (memory nodes.old values.old reports.old) result.it result.at (memory nodes.new values.new reports.new) }
+pub fn open_binary(p: &mut Parser, start: u32, left: u32, op: u32) -> Unfinished
+    ensures { Does (open_binary start left op) p.old result p.new }
 {
-    let sign = open_here(
-        d,
-        s,
-        text,
-        tokens,
-        nodes,
-        values,
-        reports,
-        node::OPERATOR,
-        0,
-    );
-    let past = pass(d, sign.at, text, tokens, nodes, values, reports);
-    let sign = close_node(d, past, text, tokens, nodes, values, reports, sign.it);
-    let u = open_from(
-        d,
-        sign.at,
-        text,
-        tokens,
-        nodes,
-        values,
-        reports,
-        start,
-        node::BINARY_EXPR,
-        op,
-    );
-    let u2 = push_child(d, u.at, text, tokens, nodes, values, reports, u.it, left);
-    push_child(
-        d, u2.at, text, tokens, nodes, values, reports, u2.it, sign.it,
-    )
+    let sign = open_here(p, node::OPERATOR, 0);
+    pass(p);
+    let sign = close_node(p, sign);
+    let u = open_from(p, start, node::BINARY_EXPR, op);
+    let u2 = push_child(p, u, left);
+    push_child(p, u2, sign)
 }
 
 // ---- nodes
 
-pub fn push_close(
-    d: u32,
-    s: Reading,
-    text: &[u8],
-    tokens: &[u32],
-    nodes: &mut [u32],
-    values: &mut [u32],
-    reports: &mut [u32],
-    u: Unfinished,
-    child: u32,
-) -> Got
-    ensures { Does text.now tokens.now d (push_close u child) s (memory nodes.old values.old reports.old) result.it result.at (memory nodes.new values.new reports.new) }
+pub fn push_close(p: &mut Parser, u: Unfinished, child: u32) -> u32
+    ensures { Does (push_close u child) p.old result p.new }
 {
-    let u = push_child(d, s, text, tokens, nodes, values, reports, u, child);
-    close_node(d, u.at, text, tokens, nodes, values, reports, u.it)
+    let u = push_child(p, u, child);
+    close_node(p, u)
 }
 
 // A list is closed and is the last child of its parent.
-pub fn close_into(
-    d: u32,
-    s: Reading,
-    text: &[u8],
-    tokens: &[u32],
-    nodes: &mut [u32],
-    values: &mut [u32],
-    reports: &mut [u32],
-    list: Unfinished,
-    parent: Unfinished,
-) -> Got
-    ensures { Does text.now tokens.now d (close_into list parent) s (memory nodes.old values.old reports.old) result.it result.at (memory nodes.new values.new reports.new) }
+pub fn close_into(p: &mut Parser, list: Unfinished, parent: Unfinished) -> u32
+    ensures { Does (close_into list parent) p.old result p.new }
 {
-    let list = close_node(d, s, text, tokens, nodes, values, reports, list);
-    push_close(
-        d, list.at, text, tokens, nodes, values, reports, parent, list.it,
-    )
+    let list = close_node(p, list);
+    push_close(p, parent, list)
 }
 
 // An element with its last child, in its list.
 pub fn add_element(
-    d: u32,
-    s: Reading,
-    text: &[u8],
-    tokens: &[u32],
-    nodes: &mut [u32],
-    values: &mut [u32],
-    reports: &mut [u32],
+    p: &mut Parser,
     u: Unfinished,
     child: u32,
     list: Unfinished,
-) -> Listed
-    ensures { Does text.now tokens.now d (add_element u child list) s (memory nodes.old values.old reports.old) (element result.it) result.at (memory nodes.new values.new reports.new) }
+) -> Option<Unfinished>
+    ensures { Does (add_element u child list) p.old (element result) p.new }
 {
-    let node = push_close(d, s, text, tokens, nodes, values, reports, u, child);
-    let list = push_child(
-        d, node.at, text, tokens, nodes, values, reports, list, node.it,
-    );
-    let at = list.at;
-    let it = list.it;
-    Listed {
-        it: Element::More(it),
-        at,
-    }
+    let node = push_close(p, u, child);
+    Some(push_child(p, list, node))
 }
 
 // ---- operands
 
 // The first alternatives of `try_parse_standalone_expr`: an operand that is a literal, or a name.
-pub fn literal(
-    d: u32,
-    s: Reading,
-    text: &[u8],
-    tokens: &[u32],
-    nodes: &mut [u32],
-    values: &mut [u32],
-    reports: &mut [u32],
-) -> Found
-    ensures { Does text.now tokens.now d literal s (memory nodes.old values.old reports.old) (maybe result.it) result.at (memory nodes.new values.new reports.new) }
+pub fn literal(p: &mut Parser) -> Option<u32>
+    ensures { Does literal p.old (maybe result) p.new }
 {
-    let yes = boolean(d, s, text, tokens, nodes, values, reports);
-    let it = yes.it;
-    if is_some(it) {
+    let yes = boolean(p);
+    if yes.is_some() {
         return yes;
     }
-    let number = num_literal(d, yes.at, text, tokens, nodes, values, reports);
-    let it = number.it;
-    if is_some(it) {
+    let number = num_literal(p);
+    if number.is_some() {
         return number;
     }
-    try_parse_string_literal(d, number.at, text, tokens, nodes, values, reports)
+    try_parse_string_literal(p)
 }
 
-fn boolean(
-    d: u32,
-    s: Reading,
-    text: &[u8],
-    tokens: &[u32],
-    nodes: &mut [u32],
-    values: &mut [u32],
-    reports: &mut [u32],
-) -> Found
-    ensures { Does text.now tokens.now d boolean s (memory nodes.old values.old reports.old) (maybe result.it) result.at (memory nodes.new values.new reports.new) }
+fn boolean(p: &mut Parser) -> Option<u32>
+    ensures { Does boolean p.old (maybe result) p.new }
 {
-    let yes = eat_as(
-        d,
-        s,
-        text,
-        tokens,
-        nodes,
-        values,
-        reports,
-        token::TRUE,
-        node::BOOL_LITERAL,
-        flag::BOOL_LITERAL_TRUE,
-    );
-    let it = yes.it;
-    if is_some(it) {
+    let yes = eat_as(p, token::TRUE, node::BOOL_LITERAL, flag::BOOL_LITERAL_TRUE);
+    if yes.is_some() {
         return yes;
     }
-    eat_as(
-        d,
-        yes.at,
-        text,
-        tokens,
-        nodes,
-        values,
-        reports,
-        token::FALSE,
-        node::BOOL_LITERAL,
-        0,
-    )
+    eat_as(p, token::FALSE, node::BOOL_LITERAL, 0)
 }
 
 // A node that is one token.
-fn eat_as(
-    d: u32,
-    s: Reading,
-    text: &[u8],
-    tokens: &[u32],
-    nodes: &mut [u32],
-    values: &mut [u32],
-    reports: &mut [u32],
-    token: u32,
-    kind: u32,
-    payload: u32,
-) -> Found
-    ensures { Does text.now tokens.now d (eats token (alloc_last_token_as_node kind payload)) s (memory nodes.old values.old reports.old) (maybe result.it) result.at (memory nodes.new values.new reports.new) }
+fn eat_as(p: &mut Parser, token: u32, kind: u32, payload: u32) -> Option<u32>
+    ensures { Does (eats token (alloc_last_token_as_node kind payload)) p.old (maybe result) p.new }
 {
-    let eaten = eat(d, s, text, tokens, nodes, values, reports, token);
-    let at = eaten.at;
-    if eaten.is {
-        let n = alloc_last_token_as_node(
-            d, at, text, tokens, nodes, values, reports, kind, payload,
-        );
-        let at = n.at;
-        return Found {
-            it: Maybe::Some(n.it),
-            at,
-        };
+    if !eat(p, token) {
+        return None;
     }
-    Found {
-        it: Maybe::None,
-        at,
-    }
+    Some(alloc_last_token_as_node(p, kind, payload))
 }
 
-pub fn named(
-    d: u32,
-    s: Reading,
-    text: &[u8],
-    tokens: &[u32],
-    nodes: &mut [u32],
-    values: &mut [u32],
-    reports: &mut [u32],
-) -> Found
-    ensures { Does text.now tokens.now d named s (memory nodes.old values.old reports.old) (maybe result.it) result.at (memory nodes.new values.new reports.new) }
+pub fn named(p: &mut Parser) -> Option<u32>
+    ensures { Does named p.old (maybe result) p.new }
 {
-    let own = eat_as(
-        d,
-        s,
-        text,
-        tokens,
-        nodes,
-        values,
-        reports,
-        token::SELF_TYPE,
-        node::SELF_TYPE,
-        0,
-    );
-    let it = own.it;
-    if is_some(it) {
+    let own = eat_as(p, token::SELF_TYPE, node::SELF_TYPE, 0);
+    if own.is_some() {
         return own;
     }
-    let name = try_parse_ident(d, own.at, text, tokens, nodes, values, reports);
-    let it = name.it;
-    if is_some(it) {
+    let name = try_parse_ident(p);
+    if name.is_some() {
         return name;
     }
-    try_parse_builtin_name(d, name.at, text, tokens, nodes, values, reports)
+    try_parse_builtin_name(p)
 }
 
 // ---- members
 
-fn access_name(
-    d: u32,
-    s: Reading,
-    text: &[u8],
-    tokens: &[u32],
-    nodes: &mut [u32],
-    values: &mut [u32],
-    reports: &mut [u32],
-) -> Got
-    ensures { Does text.now tokens.now d access_name s (memory nodes.old values.old reports.old) result.it result.at (memory nodes.new values.new reports.new) }
+fn access_name(p: &mut Parser) -> u32
+    ensures { Does access_name p.old result p.new }
 {
-    let found = try_parse_ident(d, s, text, tokens, nodes, values, reports);
-    let it = found.it;
-    match it {
-        Maybe::Some(n) => {
-            let at = found.at;
-            Got { it: n, at }
-        }
-        Maybe::None => no_access_name(d, found.at, text, tokens, nodes, values, reports),
+    match try_parse_ident(p) {
+        Some(n) => n,
+        None => no_access_name(p),
     }
 }
 
-pub fn member_expr(
-    d: u32,
-    s: Reading,
-    text: &[u8],
-    tokens: &[u32],
-    nodes: &mut [u32],
-    values: &mut [u32],
-    reports: &mut [u32],
-    start: u32,
-    left: u32,
-) -> Got
-    ensures { Does text.now tokens.now d (member_expr start left) s (memory nodes.old values.old reports.old) result.it result.at (memory nodes.new values.new reports.new) }
+pub fn member_expr(p: &mut Parser, start: u32, left: u32) -> u32
+    ensures { Does (member_expr start left) p.old result p.new }
 {
-    let u = open_from(
-        d,
-        s,
-        text,
-        tokens,
-        nodes,
-        values,
-        reports,
-        start,
-        node::MEMBER_EXPR,
-        0,
-    );
-    let u2 = push_child(d, u.at, text, tokens, nodes, values, reports, u.it, left);
-    let name = access_name(d, u2.at, text, tokens, nodes, values, reports);
-    push_close(
-        d, name.at, text, tokens, nodes, values, reports, u2.it, name.it,
-    )
+    let u = open_from(p, start, node::MEMBER_EXPR, 0);
+    let u2 = push_child(p, u, left);
+    let name = access_name(p);
+    push_close(p, u2, name)
 }
 
-fn no_access_name(
-    d: u32,
-    s: Reading,
-    text: &[u8],
-    tokens: &[u32],
-    nodes: &mut [u32],
-    values: &mut [u32],
-    reports: &mut [u32],
-) -> Got
-    ensures { Does text.now tokens.now d no_access_name s (memory nodes.old values.old reports.old) result.it result.at (memory nodes.new values.new reports.new) }
+fn no_access_name(p: &mut Parser) -> u32
+    ensures { Does no_access_name p.old result p.new }
 {
-    let told = emit_unexpected(d, s, text, tokens, nodes, values, reports);
-    let u = open_here(
-        d,
-        told,
-        text,
-        tokens,
-        nodes,
-        values,
-        reports,
-        node::ERROR,
-        0,
-    );
-    let next = peek(d, u.at, text, tokens, nodes, values, reports);
-    if contains(&AFTER_ACCESS, next.it) {
-        return close_node(d, next.at, text, tokens, nodes, values, reports, u.it);
+    emit_unexpected(p);
+    let u = open_here(p, node::ERROR, 0);
+    if !contains(&AFTER_ACCESS, peek(p)) {
+        pass(p);
     }
-    let past = pass(d, next.at, text, tokens, nodes, values, reports);
-    close_node(d, past, text, tokens, nodes, values, reports, u.it)
+    close_node(p, u)
 }
 
 // Which tokens are not taken for the name after a dot.
@@ -476,95 +203,35 @@ const AFTER_ACCESS: [u32; 4] = [
 // ---- branches and statements, closed
 
 // The end of a statement, with its semicolon.
-pub fn end_stmt(
-    d: u32,
-    s: Reading,
-    text: &[u8],
-    tokens: &[u32],
-    nodes: &mut [u32],
-    values: &mut [u32],
-    reports: &mut [u32],
-    u: Unfinished,
-    child: u32,
-) -> Stmt
-    ensures { Does text.now tokens.now d (end_stmt u child) s (memory nodes.old values.old reports.old) (stmt_result result.it) result.at (memory nodes.new values.new reports.new) }
+pub fn end_stmt(p: &mut Parser, u: Unfinished, child: u32) -> Option<StmtResult>
+    ensures { Does (end_stmt u child) p.old (stmt_result result) p.new }
 {
-    let u = push_child(d, s, text, tokens, nodes, values, reports, u, child);
-    let semi = expect(
-        d,
-        u.at,
-        text,
-        tokens,
-        nodes,
-        values,
-        reports,
-        token::SEMICOLON,
-    );
-    let n = close_node(d, semi.at, text, tokens, nodes, values, reports, u.it);
-    let at = n.at;
-    Stmt {
-        it: StmtResult::Statement(n.it),
-        at,
-    }
+    let u = push_child(p, u, child);
+    expect(p, token::SEMICOLON);
+    Some(StmtResult::Statement(close_node(p, u)))
 }
 
 // A list is closed, then what closes its parent follows, and the parent's end: of an `if`, and of a block.
-pub fn close_if(
-    d: u32,
-    s: Reading,
-    text: &[u8],
-    tokens: &[u32],
-    nodes: &mut [u32],
-    values: &mut [u32],
-    reports: &mut [u32],
-    list: Unfinished,
-    parent: Unfinished,
-    closing: Maybe,
-) -> Got
-    ensures { Does text.now tokens.now d (close_if list parent (maybe closing)) s (memory nodes.old values.old reports.old) result.it result.at (memory nodes.new values.new reports.new) }
+pub fn close_if(p: &mut Parser, list: Unfinished, parent: Unfinished, closing: Option<u32>) -> u32
+    ensures { Does (close_if list parent (maybe closing)) p.old result p.new }
 {
-    let list = close_node(d, s, text, tokens, nodes, values, reports, list);
-    let parent = push_child(
-        d, list.at, text, tokens, nodes, values, reports, parent, list.it,
-    );
-    let parent = push_closing(
-        d, parent.at, text, tokens, nodes, values, reports, parent.it, list.it, closing,
-    );
-    close_node(
-        d, parent.at, text, tokens, nodes, values, reports, parent.it,
-    )
+    let list = close_node(p, list);
+    let parent = push_child(p, parent, list);
+    let parent = push_closing(p, parent, list, closing);
+    close_node(p, parent)
 }
 
 pub fn close_block(
-    d: u32,
-    s: Reading,
-    text: &[u8],
-    tokens: &[u32],
-    nodes: &mut [u32],
-    values: &mut [u32],
-    reports: &mut [u32],
+    p: &mut Parser,
     list: Unfinished,
     parent: Unfinished,
-    closing: Maybe,
-) -> Got
-    ensures { Does text.now tokens.now d (close_block list parent (maybe closing)) s (memory nodes.old values.old reports.old) result.it result.at (memory nodes.new values.new reports.new) }
+    closing: Option<u32>,
+) -> u32
+    ensures { Does (close_block list parent (maybe closing)) p.old result p.new }
 {
-    let list = close_node(d, s, text, tokens, nodes, values, reports, list);
-    let parent = push_child(
-        d, list.at, text, tokens, nodes, values, reports, parent, list.it,
-    );
-    let parent = push_closing(
-        d, parent.at, text, tokens, nodes, values, reports, parent.it, list.it, closing,
-    );
-    let end = expect(
-        d,
-        parent.at,
-        text,
-        tokens,
-        nodes,
-        values,
-        reports,
-        token::RIGHT_CURLY,
-    );
-    close_node(d, end.at, text, tokens, nodes, values, reports, parent.it)
+    let list = close_node(p, list);
+    let parent = push_child(p, parent, list);
+    let parent = push_closing(p, parent, list, closing);
+    expect(p, token::RIGHT_CURLY);
+    close_node(p, parent)
 }

@@ -9,14 +9,18 @@ ghost use Rattle.reader.specs.Demand.{Agrees};
 ghost use Rattle.plank.specs.Reads.{given, lent};
 
 use lexer::Lexed;
-use parser::Parsed;
+use words::Refused;
 
-// What reading answers: the counts of tokens, nodes, value words and reports, or a refusal's number and place.
-#[derive(Clone, Copy)]
-pub enum Outcome {
-    Counts(usize, u32, usize, usize),
-    Refused(u32, u32),
+// How many tokens, nodes, value words and reports there are.
+#[derive(Clone, Copy, Debug, PartialEq, Eq)]
+pub struct Counts {
+    pub tokens: usize,
+    pub nodes: u32,
+    pub values: usize,
+    pub reports: usize,
 }
+
+pub type Outcome = Result<Counts, Refused>;
 
 // The first n words are the tokens that were lexed; they are parsed.
 fn parse_lexed(
@@ -31,10 +35,15 @@ fn parse_lexed(
     ensures { given result tokens.new nodes.new values.new reports.new ≡ after_lexing text.now (lent tokens.old nodes.old values.old reports.old) tokens.old (done (n ∷ [])) }
 {
     match parser::parse(text, &tokens[..n], nodes, values, reports) {
-        Parsed::Counts(nodes, values, reports) => Outcome::Counts(n, nodes, values, reports),
-        Parsed::Refused(number, place) => {
+        Ok(parsed) => Ok(Counts {
+            tokens: n,
+            nodes: parsed.nodes,
+            values: parsed.values,
+            reports: parsed.reports,
+        }),
+        Err(refused) => {
             parser::clear(tokens);
-            Outcome::Refused(number, place)
+            Err(refused)
         }
     }
 }
@@ -51,12 +60,12 @@ pub fn read(
     ensures { (given result tokens.new nodes.new values.new reports.new ≡ reads text.now (lent tokens.old nodes.old values.old reports.old)) × Agrees text.now (given result tokens.new nodes.new values.new reports.new) }
 {
     match tables::lex(text, tokens) {
-        Lexed::Tokens(n) => parse_lexed(text, tokens, nodes, values, reports, n),
-        Lexed::Refused(number, place) => {
+        Ok(n) => parse_lexed(text, tokens, nodes, values, reports, n),
+        Err(refused) => {
             parser::clear(nodes);
             parser::clear(values);
             parser::clear(reports);
-            Outcome::Refused(number, place as u32)
+            Err(refused)
         }
     }
 }

@@ -7,9 +7,9 @@ mod print;
 mod reports;
 mod show;
 
-use plank::Outcome;
 use std::alloc::Global;
 use std::env::{Env, FillError};
+use std::fmt::Display;
 use std::fs;
 use std::io::{self, Read, Write};
 
@@ -23,12 +23,11 @@ const VALUES: usize = 65537;
 
 const REPORTS: usize = 393219;
 
-// What an argument was; none behind the last.
+// What an argument was.
 #[derive(Clone, Copy)]
 enum Argument {
     Tree,
     File,
-    Missing,
 }
 
 // The tree, if it is asked for. The values are not printed, and their words serve to find the way through the tree.
@@ -58,12 +57,12 @@ fn report_on(
     told: &mut [u32; REPORTS],
 ) -> io::Result<()> {
     match plank::read(text, tokens, nodes, values, told) {
-        Outcome::Counts(_, count, _, mistakes) => {
-            tree_if_asked(out, with_tree, text, tokens, nodes, count, values)?;
-            reports::list(out, name, text, told, mistakes)?;
-            reports::summary(out, name, mistakes)
+        Ok(read) => {
+            tree_if_asked(out, with_tree, text, tokens, nodes, read.nodes, values)?;
+            reports::list(out, name, text, told, read.reports)?;
+            reports::summary(out, name, read.reports)
         }
-        Outcome::Refused(number, place) => reports::refused(out, name, text, tokens, number, place),
+        Err(refused) => reports::refused(out, name, text, tokens, refused),
     }
 }
 
@@ -92,11 +91,7 @@ fn read(alloc: Global, from: &mut impl Read) -> io::Result<Vec<u8>> {
 }
 
 // Tells on standard error why something can't be read; where that can't be written either, no one is told.
-fn fail(rt: &impl Eprint, name: &str, why: &str) {
-    let _ = eprintln!(rt; "{name}: {why}");
-}
-
-fn fail_by(rt: &impl Eprint, name: &str, why: io::Error) {
+fn fail(rt: &impl Eprint, name: &str, why: &impl Display) {
     let _ = eprintln!(rt; "{name}: {why}");
 }
 
@@ -104,7 +99,7 @@ fn check_input(rt: &HostRuntime, with_tree: bool) -> io::Result<()> {
     match read(rt.alloc(), &mut rt.stdin()) {
         Ok(text) => check_text(&mut io::writer(rt), b"<stdin>", text.as_slice(), with_tree),
         Err(why) => {
-            fail_by(rt, "<stdin>", why);
+            fail(rt, "<stdin>", &why);
             Ok(())
         }
     }
@@ -127,7 +122,7 @@ fn check_file(rt: &HostRuntime, path: &str, with_tree: bool) -> io::Result<()> {
             with_tree,
         ),
         Err(why) => {
-            fail_by(rt, path, why);
+            fail(rt, path, &why);
             Ok(())
         }
     }
@@ -142,20 +137,20 @@ fn follow(rt: &HostRuntime, argument: &[u8], with_tree: bool) -> io::Result<Argu
             }
             check_file(rt, text, with_tree)?;
         }
-        Err(_) => fail(rt, "argument", "not UTF-8"),
+        Err(_) => fail(rt, "argument", &"not UTF-8"),
     }
     Ok(Argument::File)
 }
 
-// Does what the i-th argument says.
-fn take(rt: &HostRuntime, i: usize, with_tree: bool) -> io::Result<Argument> {
+// Does what the i-th argument says; none behind the last.
+fn take(rt: &HostRuntime, i: usize, with_tree: bool) -> io::Result<Option<Argument>> {
     let mut buffer = [0u8; 4096];
     match rt.arg(i, &mut buffer) {
-        Ok(n) => follow(rt, &buffer[..n], with_tree),
-        Err(FillError::NotPresent) => Ok(Argument::Missing),
+        Ok(n) => Ok(Some(follow(rt, &buffer[..n], with_tree)?)),
+        Err(FillError::NotPresent) => Ok(None),
         Err(FillError::TooLong) => {
-            fail(rt, "argument", "too long");
-            Ok(Argument::File)
+            fail(rt, "argument", &"too long");
+            Ok(Some(Argument::File))
         }
     }
 }
@@ -165,9 +160,9 @@ fn main(rt: HostRuntime) -> io::Result<()> {
     let mut is_named = false;
     for i in 1..usize::MAX {
         match take(&rt, i, with_tree)? {
-            Argument::Tree => with_tree = true,
-            Argument::File => is_named = true,
-            Argument::Missing => break,
+            Some(Argument::Tree) => with_tree = true,
+            Some(Argument::File) => is_named = true,
+            None => break,
         }
     }
     if is_named {

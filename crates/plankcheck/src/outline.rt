@@ -3,7 +3,7 @@ use crate::{print, show};
 use std::io::{self, Write};
 use words::{NODE_WIDTH, Node, flag, node};
 
-// The node that comes next, and how many nodes it is below File; node 0 where none does.
+// The node that comes next, and how many nodes it is below File.
 #[derive(Clone, Copy)]
 struct Next {
     node: u32,
@@ -12,36 +12,26 @@ struct Next {
 
 // A node by its number; one of zeros where there is none.
 fn node_at(nodes: &[u32], number: u32) -> Node {
-    let n = number as usize;
-    if n < nodes.len() / NODE_WIDTH {
-        let at = n * NODE_WIDTH;
-        return words::node_of([
-            nodes[at],
-            nodes[at + 1],
-            nodes[at + 2],
-            nodes[at + 3],
-            nodes[at + 4],
-            nodes[at + 5],
-        ]);
+    match nodes.as_chunks::<NODE_WIDTH>().0.get(number as usize) {
+        Some(words) => words::node_of(*words),
+        None => words::node_of([0; NODE_WIDTH]),
     }
-    words::node_of([0, 0, 0, 0, 0, 0])
 }
 
 // Where a token starts: at the end of the one before it.
 pub(crate) fn token_start(tokens: &[u32], token: u32) -> usize {
-    let n = token as usize;
-    if n == 0 {
+    if token == 0 {
         return 0;
     }
-    if tokens.len() < n {
-        return 0;
+    match tokens.get(token as usize - 1) {
+        Some(word) => words::token_end(*word) as usize,
+        None => 0,
     }
-    words::token_end(tokens[n - 1]) as usize
 }
 
 fn print_flag(out: &mut impl Write, payload: u32, bit: u32, name: &[u8]) -> io::Result<()> {
     if payload & bit != 0 {
-        print::bytes(out, name)?;
+        out.write_all(name)?;
     }
     Ok(())
 }
@@ -77,18 +67,12 @@ fn print_flags(out: &mut impl Write, kind: u32, payload: u32) -> io::Result<()> 
 // Two blanks for a level, up to 40 levels; deeper ones are as those.
 fn print_indent(out: &mut impl Write, depth: usize) -> io::Result<()> {
     let blanks = [b' '; 80];
-    if depth < 40 {
-        print::part(out, &blanks, 0, depth * 2)?;
-        return Ok(());
-    }
-    print::bytes(out, &blanks)?;
-    Ok(())
+    out.write_all(&blanks[..depth.min(40) * 2])
 }
 
 // Up to where a node's tokens are shown: all those of a name, a literal, an operator or an error, and the operator of a UnaryExpr.
 fn shown_end(n: Node) -> u32 {
-    let kind = n.kind;
-    match kind {
+    match n.kind {
         node::IDENTIFIER | node::BUILTIN_NAME | node::SELF_TYPE | node::PARAM_ANY_TYPE => n.end,
         node::BOOL_LITERAL | node::NUM_LITERAL | node::STRING_LITERAL => n.end,
         node::OPERATOR | node::ERROR => n.end,
@@ -106,7 +90,7 @@ fn print_tokens(
     end: u32,
 ) -> io::Result<()> {
     if first < end {
-        print::bytes(out, b" ")?;
+        out.write_all(b" ")?;
         show::excerpt(
             out,
             text,
@@ -128,41 +112,34 @@ fn print_node(
     print::node(out, n.kind)?;
     print_flags(out, n.kind, n.payload)?;
     print_tokens(out, text, tokens, n.first, shown_end(n))?;
-    print::bytes(out, b"\n")?;
-    Ok(())
+    out.write_all(b"\n")
 }
 
 // The next sibling of the nearest node above that has one. `waiting` has the next sibling of each node above, the deepest last.
-fn above(waiting: &[u32], depth: usize) -> Next {
-    let mut at = depth;
-    while 0 < at {
-        at -= 1;
-        if at < waiting.len() {
-            let node = waiting[at];
-            if node != 0 {
-                return Next { node, depth: at };
-            }
+fn above(waiting: &[u32], depth: usize) -> Option<Next> {
+    for at in (0..depth.min(waiting.len())).rev() {
+        let node = waiting[at];
+        if node != 0 {
+            return Some(Next { node, depth: at });
         }
     }
-    Next { node: 0, depth: 0 }
+    None
 }
 
 // What comes behind a node: its first child, its next sibling, or one above.
-fn following(n: Node, depth: usize, waiting: &mut [u32]) -> Next {
-    if n.child != 0 {
-        if depth < waiting.len() {
-            waiting[depth] = n.next;
-            return Next {
-                node: n.child,
-                depth: depth + 1,
-            };
-        }
+fn following(n: Node, depth: usize, waiting: &mut [u32]) -> Option<Next> {
+    if n.child != 0 && depth < waiting.len() {
+        waiting[depth] = n.next;
+        return Some(Next {
+            node: n.child,
+            depth: depth + 1,
+        });
     }
     if n.next != 0 {
-        return Next {
+        return Some(Next {
             node: n.next,
             depth,
-        };
+        });
     }
     above(waiting, depth)
 }
@@ -176,19 +153,14 @@ pub(crate) fn list(
     count: u32,
     waiting: &mut [u32],
 ) -> io::Result<()> {
-    let mut number = 0;
-    let mut depth = 0;
-    let mut left = count;
-    while 0 < left {
-        let n = node_at(nodes, number);
-        print_node(out, text, tokens, n, depth)?;
-        let step = following(n, depth, waiting);
-        if step.node == 0 {
-            return Ok(());
-        }
-        number = step.node;
-        depth = step.depth;
-        left -= 1;
+    let mut at = Next { node: 0, depth: 0 };
+    for _ in 0..count {
+        let n = node_at(nodes, at.node);
+        print_node(out, text, tokens, n, at.depth)?;
+        let Some(next) = following(n, at.depth, waiting) else {
+            break;
+        };
+        at = next;
     }
     Ok(())
 }

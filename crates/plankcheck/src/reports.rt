@@ -1,19 +1,14 @@
 // Reports and refusals in words.
 use crate::{outline, print, show};
-use lexer::Lexed;
 use messages::Subject;
 use position::Extent;
 use std::io::{self, Write};
-use utf8::Character;
-use words::{REPORT_WIDTH, Report, refusal, report, token};
+use words::{REPORT_WIDTH, Refusal, Refused, Report, report, token};
 
 // A place in a script, as `line:column`.
 fn print_position(out: &mut impl Write, text: &[u8], offset: usize) -> io::Result<()> {
     let p = position::locate(text, offset);
-    print::number(out, p.line)?;
-    print::bytes(out, b":")?;
-    print::number(out, p.column)?;
-    Ok(())
+    write!(out, "{}:{}", p.line, p.column)
 }
 
 // A character in quotes, as the script has it from an offset to another, with its number where it is not ASCII; by its number alone
@@ -26,16 +21,15 @@ fn print_character(
     end: usize,
 ) -> io::Result<()> {
     if c < 0x20 || messages::is_control(c) {
-        print::code_point(out, c)?;
-        return Ok(());
+        return print::code_point(out, c);
     }
-    print::bytes(out, b"'")?;
+    out.write_all(b"'")?;
     print::part(out, text, start, end)?;
-    print::bytes(out, b"'")?;
+    out.write_all(b"'")?;
     if 0x7F < c {
-        print::bytes(out, b" (")?;
+        out.write_all(b" (")?;
         print::code_point(out, c)?;
-        print::bytes(out, b")")?;
+        out.write_all(b")")?;
     }
     Ok(())
 }
@@ -43,8 +37,8 @@ fn print_character(
 // The character that a report covers.
 fn print_covered(out: &mut impl Write, text: &[u8], r: Report) -> io::Result<()> {
     let start = r.start as usize;
-    if let Character::Is(c, _) = utf8::character_at(text, start) {
-        print_character(out, text, c, start, r.end as usize)?;
+    if let Some(covered) = utf8::character_at(text, start) {
+        print_character(out, text, covered.code_point, start, r.end as usize)?;
     }
     Ok(())
 }
@@ -60,34 +54,35 @@ fn character_start(r: Report) -> usize {
 
 fn print_subject(out: &mut impl Write, text: &[u8], r: Report) -> io::Result<()> {
     match messages::subject_of(r.kind, r.detail) {
-        Subject::Token(kind) => print::token(out, kind),
-        Subject::Character(c) => print_character(out, text, c, character_start(r), r.end as usize),
-        Subject::Covered => print_covered(out, text, r),
-        Subject::Nothing => Ok(()),
+        Some(Subject::Token(kind)) => print::token(out, kind),
+        Some(Subject::Character(c)) => print_character(
+            out,
+            text,
+            c,
+            character_start(r),
+            r.end as usize,
+        ),
+        Some(Subject::Covered) => print_covered(out, text, r),
+        None => Ok(()),
     }
 }
 
 // `file:line:column: `
 fn print_head(out: &mut impl Write, name: &[u8], text: &[u8], offset: usize) -> io::Result<()> {
     show::echo(out, name, 0, name.len())?;
-    print::bytes(out, b":")?;
+    out.write_all(b":")?;
     print_position(out, text, offset)?;
-    print::bytes(out, b": ")?;
-    Ok(())
+    out.write_all(b": ")
 }
 
 // Where what is written ends: behind the last byte that is no blank.
 fn written_end(text: &[u8]) -> usize {
-    let mut at = text.len();
-    while 0 < at {
-        if at <= text.len() {
-            if !scan::is_blank(text[at - 1]) {
-                return at;
-            }
+    for at in (0..text.len()).rev() {
+        if !scan::is_blank(text[at]) {
+            return at + 1;
         }
-        at -= 1;
     }
-    at
+    0
 }
 
 // Where a report is shown: an end that comes too early is shown behind what is written, not on an empty line past it.
@@ -107,9 +102,8 @@ fn print_report(out: &mut impl Write, name: &[u8], text: &[u8], r: Report) -> io
     print_head(out, name, text, shown.start)?;
     print_subject(out, text, r)?;
     print::sentence(out, messages::sentence_of(r.kind, r.detail))?;
-    print::bytes(out, b"\n")?;
-    show::place(out, text, shown.start, shown.end)?;
-    Ok(())
+    out.write_all(b"\n")?;
+    show::place(out, text, shown.start, shown.end)
 }
 
 // So many reports, in the order in which they were made.
@@ -120,42 +114,26 @@ pub(crate) fn list(
     reports: &[u32],
     count: usize,
 ) -> io::Result<()> {
-    let mut n = 0;
-    let mut at = 0;
-    while n < count {
-        // Never so: each report that is counted has its words.
-        if reports.len() - at < REPORT_WIDTH {
-            return Ok(());
-        }
-        let r = words::report_of([reports[at], reports[at + 1], reports[at + 2]]);
-        print_report(out, name, text, r)?;
-        n += 1;
-        at += REPORT_WIDTH;
+    for words in reports.as_chunks::<REPORT_WIDTH>().0.iter().take(count) {
+        print_report(out, name, text, words::report_of(*words))?;
     }
     Ok(())
 }
 
 pub(crate) fn summary(out: &mut impl Write, name: &[u8], count: usize) -> io::Result<()> {
     show::echo(out, name, 0, name.len())?;
-    if count == 0 {
-        print::bytes(out, b": no mistakes\n")?;
-        return Ok(());
+    match count {
+        0 => out.write_all(b": no mistakes\n"),
+        1 => out.write_all(b": 1 mistake\n"),
+        _ => writeln!(out, ": {count} mistakes"),
     }
-    print::bytes(out, b": ")?;
-    print::number(out, count)?;
-    if count == 1 {
-        print::bytes(out, b" mistake\n")?;
-        return Ok(());
-    }
-    print::bytes(out, b" mistakes\n")?;
-    Ok(())
 }
 
 // Where a token starts. A refusal leaves no tokens, so the text is lexed once more.
 fn start_of_token(text: &[u8], tokens: &mut [u32], token: u32) -> usize {
     match plank::lex(text, tokens) {
-        Lexed::Tokens(_) => outline::token_start(tokens, token),
-        Lexed::Refused(_, _) => 0,
+        Ok(_) => outline::token_start(tokens, token),
+        Err(_) => 0,
     }
 }
 
@@ -167,26 +145,24 @@ fn print_place(
     number: u32,
     offset: usize,
 ) -> io::Result<()> {
-    print::bytes(out, unit)?;
-    print::number(out, number as usize)?;
-    print::bytes(out, b" (")?;
+    out.write_all(unit)?;
+    write!(out, "{number} (")?;
     print_position(out, text, offset)?;
-    print::bytes(out, b")\n")?;
-    Ok(())
+    out.write_all(b")\n")
 }
 
 fn print_refusal_place(
     out: &mut impl Write,
     text: &[u8],
     tokens: &mut [u32],
-    number: u32,
-    place: u32,
+    refused: Refused,
 ) -> io::Result<()> {
-    match number {
-        refusal::NOT_UTF8_START | refusal::NOT_UTF8_LATER | refusal::NOT_UTF8_CUT => {
+    let place = refused.place;
+    match refused.refusal {
+        Refusal::NotUtf8Start | Refusal::NotUtf8Later | Refusal::NotUtf8Cut => {
             print_place(out, text, b" at byte ", place, place as usize)
         }
-        refusal::TOO_LONG => print::bytes(out, b"\n"),
+        Refusal::TooLong => out.write_all(b"\n"),
         _ => {
             let start = start_of_token(text, tokens, place);
             print_place(out, text, b" at token ", place, start)
@@ -199,12 +175,10 @@ pub(crate) fn refused(
     name: &[u8],
     text: &[u8],
     tokens: &mut [u32],
-    number: u32,
-    place: u32,
+    refused: Refused,
 ) -> io::Result<()> {
     show::echo(out, name, 0, name.len())?;
-    print::bytes(out, b": refused: ")?;
-    print::refusal(out, number)?;
-    print_refusal_place(out, text, tokens, number, place)?;
-    Ok(())
+    out.write_all(b": refused: ")?;
+    print::refusal(out, refused.number())?;
+    print_refusal_place(out, text, tokens, refused)
 }

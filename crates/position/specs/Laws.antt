@@ -1,7 +1,9 @@
 -- Laws of the definitions in `Position`.
-use Rattle.std.specs.Prelude.{◌≡◌, refl, Bool, true, false, cond, List, [], ◌∷◌, ℕ, suc, ◌+◌, ◌-◌, ◌≤◌, ◌<◌, min, leb, length, get_or, take, drop}
+use Rattle.std.specs.Prelude.{◌≡◌, refl, Bool, true, false, cond, List, [], ◌∷◌, ℕ, suc, ◌+◌, ◌-◌, ◌≤◌, ◌<◌, min, leb, ltb, length, get_or, take, drop, reverse, Option, Some, None}
+use Rattle.std.specs.List.{position, position_or_len}
+use Rattle.std.proofs.lemmas.List.Recursion.{is_position_or_len}
 use Rattle.std.proofs.lemmas.List.{reverse-append, length-reverse}
-use Rattle.std.proofs.Common.{zero-add, add-one, arith, leb-true, leb-false, ne_eqb, length-drop, drop_of_length-le, take-suc, take_all, drop-cons, length-take-le}
+use Rattle.std.proofs.Common.{sym, ◌∙◌, ltb-false, zero-add, add-one, arith, leb-true, leb-false, ne_eqb, length-drop, drop_of_length-le, take-suc, take_all, drop-cons, length-take-le}
 use Rattle.std.proofs.Math.Seq.{take-length, drop-length}
 use Rattle.scan.specs.Lexer.{has_mark}
 use Rattle.position.specs.Position.{is_newline, is_start, count, until_newline, before, position_after, position_in, position_of, line_start, line_end, line_in, mark_length, source_line, behind}
@@ -85,6 +87,49 @@ pub position-most : (text : List ℕ) (at : ℕ) → at ≤ length text → ((po
 unfolding position_in position_after
 position-most text at h =
     omega (arith, before-length text at h, count_most is_newline (before text at), count_most is_start (until_newline (before text at)), until-most (before text at))
+
+-- What is looked for from an offset is the next newline on either side of it.
+cut-length : (t : Bool) (b : ℕ) (s : List ℕ) → length (cond t [] (b ∷ s)) ≡ cond t 0 (1 + length s)
+cut-length true b s = refl
+cut-length false b s = omega arith
+
+until-newline : (s : List ℕ) → length (until_newline s) ≡ position_or_len is_newline s
+unfolding until_newline
+until-newline s = is_position_or_len (λ x. length (until_newline x)) is_newline refl (λ b x. cut-length (is_newline b) b (until_newline x)) s
+
+found-by : (n k l : ℕ) (t : Bool) → cond t (Some k) None ≡ Some n → k ≡ n
+found-by n k l true e = cc
+found-by n k l false e = absurd (cc)
+
+none-by : (k l : ℕ) → k ≤ l → (t : Bool) → ltb k l ≡ t → cond t (Some k) None ≡ None → k ≡ l
+none-by k l h true e f = absurd (cc)
+none-by k l h false e f = omega (arith, ltb-false k l e)
+
+module _ (s : List ℕ) (r : Option ℕ) (e : r ≡ position is_newline s) where
+  newline-some : (n : ℕ) → r ≡ Some n → length (until_newline s) ≡ n
+  newline-some n f = until-newline s ∙ found-by n _ (length s) (ltb (position_or_len is_newline s) (length s)) (sym e ∙ f)
+
+  newline-none : r ≡ None → length (until_newline s) ≡ length s
+  newline-none f = until-newline s ∙ none-by _ (length s) (rw (← until-newline s) (until-most s)) (ltb (position_or_len is_newline s) (length s)) refl (sym e ∙ f)
+
+module _ (text : List ℕ) (at : ℕ) (h : at ≤ length text) (r : Option ℕ) where
+  module _ (e : r ≡ position is_newline (reverse (take at text))) where
+    pub start-some : (n : ℕ) → r ≡ Some n → at - n ≡ line_start text at
+    unfolding line_start before
+    start-some n f = omega (arith, before-length text at h, newline-some (before text at) r e n f)
+
+    pub start-none : r ≡ None → 0 ≡ line_start text at
+    unfolding line_start before
+    start-none f = omega (arith, newline-none (before text at) r e f)
+
+  module _ (e : r ≡ position is_newline (drop at text)) where
+    pub end-some : (n : ℕ) → r ≡ Some n → at + n ≡ line_end text at
+    unfolding line_end
+    end-some n f = omega (arith, before-length text at h, newline-some (drop at text) r e n f)
+
+    pub end-none : r ≡ None → length text ≡ line_end text at
+    unfolding line_end
+    end-none f = omega (arith, before-length text at h, newline-none (drop at text) r e f, length-drop at text)
 
 -- Where the line starts, seen from behind a byte: there, if that is a newline; else where it starts seen from before it.
 module _ (text : List ℕ) (at start : ℕ) (h : at < length text) (e : start ≡ at + 1) where

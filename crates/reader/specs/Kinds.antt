@@ -4,7 +4,7 @@ use Rattle.std.proofs.Common.{ltb-true, lit<}
 use Rattle.words.specs.Token as TokenKind
 use Rattle.utf8.specs.Utf8.{character_at}
 use Rattle.utf8.specs.declared.Character.{Character}
-use Rattle.utf8.specs.declared.Character.TheVariants.{Is, Nothing}
+use Rattle.std.specs.Prelude.{Option, Some, None}
 use Rattle.scan.specs.Bytes.{ident_part, is_digit}
 use Rattle.scan.specs.Longest.{and_both}
 use Rattle.scan.specs.Lexer.{Lexeme, lexeme, more, Rule, matched, callback, Match, longest, Fixed, rule, punctuation, keywords, others, rules, no_match, token_at, string, number, block_comment, line_comment, invalid_char}
@@ -57,9 +57,9 @@ invalid-low : Lows invalid_char
 unfolding invalid_char
 invalid-low s = go (character_at s)
   where
-    go : (c : Character) → Low (elim c [ Is c n ↦ lexeme TokenKind.InvalidCharError n | Nothing ↦ lexeme TokenKind.InvalidCharError 1 ])
-    go (Is c n) = lit< tt
-    go Nothing = lit< tt
+    go : (c : Option Character) → Low (elim c [ Some c ↦ lexeme TokenKind.InvalidCharError c.length | None ↦ lexeme TokenKind.InvalidCharError 1 ])
+    go (Some c) = lit< tt
+    go None = lit< tt
 
 data Sound : List Rule → Type 0 where
   none : Sound []

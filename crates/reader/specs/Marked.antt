@@ -9,10 +9,10 @@ use mathlib.Core.List.{List, [], ◌∷◌, ◌++◌, map}
 use Prim.Native.Nat.{ℕ, zero, suc, pred, ◌+◌, ◌%◌, ◌^◌, ◌<◌, ◌≤◌}
 use Rattle.std.proofs.Math.Dec.{leb-suc-suc}
 use Rattle.std.proofs.Math.Seq.{slice}
-use Rattle.words.specs.ErrorToken
+use Rattle.words.specs.declared.error_token.ErrorToken.TheVariants as Case
 use Rattle.words.specs.Token
 use Rattle.words.specs.Token.{lex_error}
-use Rattle.words.specs.declared.token.LexError.TheVariants.{Is, Nothing}
+use Rattle.std.specs.Prelude.{Some, None}
 use Rattle.std.proofs.Math.Pow as Pow
 use Rattle.words.specs.Words.{pack, high, token_kind, token_end}
 use Rattle.words.specs.Laws.{high-pack, low-pack}
@@ -138,7 +138,7 @@ module _ (t : List ℕ) (short : length t ≤ longest_text) where
         let d⁺ = (mark-dropped e u).1 d in
         (a.tree u d⁺, b.tree u d, sym (a.all u d⁺) ∙ b.all u d)
 
-first-clean : {k : ℕ} {v : Lexeme} {xs : List RowToken} → NoErrors (token k v ∷ xs) → lex_error k ≡ Nothing
+first-clean : {k : ℕ} {v : Lexeme} {xs : List RowToken} → NoErrors (token k v ∷ xs) → lex_error k ≡ None
 first-clean (no-error-more e n) = e
 
 invalid-first : (text tokens ws : List ℕ) (w : ℕ) → token_kind w ≡ Token.InvalidCharError → NoErrors (row_from text tokens 0 (w ∷ ws)) → ⊥
@@ -146,7 +146,7 @@ unfolding row_from is_blank lex_error
 invalid-first text tokens ws w e n =
     let v : Lexeme = record { number = 0; spelling = spelling text tokens 0 } in
     let xs = row_from text tokens 1 ws in
-    let clean : Is ErrorToken.InvalidChar ≡ Nothing = first-clean (subst (λ (k : ℕ). NoErrors (cond (is_blank k) xs (token k v ∷ xs))) e n) in
+    let clean : Some Case.InvalidChar ≡ None = first-clean (subst (λ (k : ℕ). NoErrors (cond (is_blank k) xs (token k v ∷ xs))) e n) in
     absurd (let z : ◌≡◌ {A = ℕ} 0 1 = cc in omega arith)
 
 -- A second mark is an invalid character, and no rule holds one: such a text is derived nowhere.

@@ -10,17 +10,16 @@ use Rattle.std.proofs.lemmas.List.{length-map}
 use Rattle.std.proofs.Math.Seq.{slice, length-slice}
 use Rattle.words.specs.Refusal
 use Rattle.words.specs.Token
-use Rattle.words.specs.Token.{is_trivia, lex_error}
-use Rattle.words.specs.declared.token.LexError.{LexError}
-use Rattle.words.specs.declared.token.LexError.TheVariants.{Is, Nothing}
+use Rattle.words.specs.declared.error_token.ErrorToken.{ErrorToken}
+use Rattle.words.specs.Token.{is_trivia, lex_error, LexError}
+use Rattle.std.specs.Prelude.{Some, None}
 use Rattle.words.specs.Words.{token_kind, token_end}
 use Rattle.words.specs.Laws.{high-pack, low-pack}
 use Rattle.words.specs.Answer.{Answer, done, refused}
-use Rattle.utf8.specs.Utf8.{checked}
+use Rattle.utf8.specs.Utf8.{Checked, checked}
 use Rattle.utf8.specs.Bytes.{AreBytes}
 use Rattle.utf8.specs.Laws.{good-bytes}
-use Rattle.utf8.specs.declared.Checked.{Checked}
-use Rattle.utf8.specs.declared.Checked.TheVariants.{Good, Bad}
+use Rattle.std.specs.Prelude.{Ok, Err}
 use Rattle.scan.specs.declared.Token.{Token as LexToken}
 use Rattle.scan.specs.Lexer.{longest_text, from, token_at, tokens_from, has_mark, tokens_of, word}
 use Rattle.scan.specs.Laws.{ended}
@@ -45,33 +44,33 @@ use Rattle.reader.specs.Kinds.{token-low}
 
 -- A text that was lexed is short and UTF-8, and its tokens are counted.
 pub data Counted (text : List ℕ) : Answer → Type 0 where
-  counted : length text ≤ longest_text → checked text ≡ Good → Counted text (done (length (tokens_of text) ∷ []))
+  counted : length text ≤ longest_text → checked text ≡ Ok tt → Counted text (done (length (tokens_of text) ∷ []))
   not-lexed : {number place : ℕ} → Counted text (refused number place)
 
 pub lexed-counted : (text : List ℕ) (lent : ℕ) → Counted text (lexed text lent)
 unfolding lexed
 lexed-counted text lent = long (ltb longest_text (length text)) refl
   where
-    fit : (t : Bool) → length text ≤ longest_text → checked text ≡ Good
+    fit : (t : Bool) → length text ≤ longest_text → checked text ≡ Ok tt
         → Counted text (cond t (refused Refusal.TokensDontFit (length (tokens_of text))) (done (length (tokens_of text) ∷ [])))
     fit true h g = not-lexed
     fit false h g = counted h g
 
     good-text : (c : Checked) → checked text ≡ c → length text ≤ longest_text
-        → Counted text (elim c [ Bad way at ↦ refused (not_utf8 way) at | Good ↦ cond (ltb lent (length (tokens_of text))) (refused Refusal.TokensDontFit (length (tokens_of text))) (done (length (tokens_of text) ∷ [])) ])
-    good-text Good g h = fit (ltb lent (length (tokens_of text))) h g
-    good-text (Bad w o) g h = not-lexed
+        → Counted text (elim c [ Err e ↦ refused (not_utf8 e.way) e.at | Ok u ↦ cond (ltb lent (length (tokens_of text))) (refused Refusal.TokensDontFit (length (tokens_of text))) (done (length (tokens_of text) ∷ [])) ])
+    good-text (Ok u) g h = fit (ltb lent (length (tokens_of text))) h g
+    good-text (Err e) g h = not-lexed
 
     long : (t : Bool) → ltb longest_text (length text) ≡ t
-        → Counted text (cond t (refused Refusal.TooLong longest_text) (elim (checked text) [ Bad way at ↦ refused (not_utf8 way) at | Good ↦ cond (ltb lent (length (tokens_of text))) (refused Refusal.TokensDontFit (length (tokens_of text))) (done (length (tokens_of text) ∷ [])) ]))
+        → Counted text (cond t (refused Refusal.TooLong longest_text) (elim (checked text) [ Err e ↦ refused (not_utf8 e.way) e.at | Ok u ↦ cond (ltb lent (length (tokens_of text))) (refused Refusal.TokensDontFit (length (tokens_of text))) (done (length (tokens_of text) ∷ [])) ]))
     long true e = not-lexed
     long false e = good-text (checked text) refl (ltb-false longest_text (length text) e)
 
 module _ (text : List ℕ) (lent n : ℕ) (e : lexed text lent ≡ done (n ∷ [])) where
-  counts : (length text ≤ longest_text) × (n ≡ length (tokens_of text)) × (checked text ≡ Good)
+  counts : (length text ≤ longest_text) × (n ≡ length (tokens_of text)) × (checked text ≡ Ok tt)
   counts = go (lexed-counted text lent) e
     where
-      go : {a : Answer} → Counted text a → a ≡ done (n ∷ []) → (length text ≤ longest_text) × (n ≡ length (tokens_of text)) × (checked text ≡ Good)
+      go : {a : Answer} → Counted text a → a ≡ done (n ∷ []) → (length text ≤ longest_text) × (n ≡ length (tokens_of text)) × (checked text ≡ Ok tt)
       go (counted h g) e = (h, cc, g)
       go not-lexed e = absurd (let z : ◌≡◌ {A = ℕ} 0 1 = cc in omega arith)
 
@@ -255,16 +254,16 @@ module _ (s : Setting) where
     where
       go : (kind : ℕ) → token_kind (word_at s.tokens i) ≡ kind → (t : Bool) (x : LexError) → lex_error kind ≡ x → eqb kind Token.Eof ≡ false → Clean (seen t x i kind (seen_from s.tokens (suc i) (length ws)))
           → (Clean (seen_from s.tokens (suc i) (length ws)) → Stands (seen_from s.tokens (suc i) (length ws))) → Stands (seen t x i kind (seen_from s.tokens (suc i) (length ws)))
-      go kind p true Nothing y n c ih = ih c
-      go kind p true (Is error) y n c ih = absurd (clean-sound c)
-      go kind p false Nothing y n (also c) ih = rw n (next {i = i} (omega arith) p n y (ih c))
-      go kind p false (Is error) y n c ih = absurd (clean-sound c)
+      go kind p true None y n c ih = ih c
+      go kind p true (Some error) y n c ih = absurd (clean-sound c)
+      go kind p false None y n (also c) ih = rw n (next {i = i} (omega arith) p n y (ih c))
+      go kind p false (Some error) y n c ih = absurd (clean-sound c)
 
   pub rows-ahead : {limit : ℕ} → Laid limit 0 s.tokens → Clean (seen_from s.tokens 0 (length s.tokens)) → Ahead s (seen_from s.tokens 0 (length s.tokens)) (row s.text s.tokens)
   rows-ahead l c = rw (rows_same s.text s.tokens c) (ahead-from 0 l (from_all s.tokens) (omega arith) c)
 
 -- An error token is a part of the chart's row.
-error-shows : (k error : ℕ) → lex_error k ≡ Is error → is_blank k ≡ false
+error-shows : (k : ℕ) (error : ErrorToken) → lex_error k ≡ Some error → is_blank k ≡ false
 unfolding is_blank lex_error
 error-shows k error e = go (eqb k Token.Whitespace) (eqb k Token.LineComment) (eqb k Token.BlockComment) (eqb k Token.Eof) refl refl refl refl
   where
@@ -287,12 +286,12 @@ module _ (text tokens : List ℕ) where
     where
       go : (k : ℕ) (t : Bool) (x : LexError) (b : Bool) → lex_error k ≡ x → is_blank k ≡ b → NoErrors (cond b (row_from text tokens (suc i) ws) (token k (lexeme text tokens i) ∷ row_from text tokens (suc i) ws))
           → (NoErrors (row_from text tokens (suc i) ws) → Clean (seen_from tokens (suc i) (length ws))) → Clean (seen t x i k (seen_from tokens (suc i) (length ws)))
-      go k true Nothing true e f c ih = ih c
-      go k true Nothing false e f (no-error-more n c) ih = ih c
-      go k false Nothing true e f c ih = also (ih c)
-      go k false Nothing false e f (no-error-more n c) ih = also (ih c)
-      go k t (Is error) true e f c ih = absurd (true≢false (sym f ∙ error-shows k error e))
-      go k t (Is error) false e f (no-error-more n c) ih = absurd (let z : ◌≡◌ {A = ℕ} 0 1 = cc in omega arith)
+      go k true None true e f c ih = ih c
+      go k true None false e f (no-error-more n c) ih = ih c
+      go k false None true e f c ih = also (ih c)
+      go k false None false e f (no-error-more n c) ih = also (ih c)
+      go k t (Some error) true e f c ih = absurd (true≢false (sym f ∙ error-shows k error e))
+      go k t (Some error) false e f (no-error-more n c) ih = absurd (let z : ◌≡◌ {A = ℕ} 0 1 = cc in omega arith)
 
   -- Where none of the chart's row is an error, all tokens are read.
   pub row-clean : NoErrors (row text tokens) → Clean (seen_from tokens 0 (length tokens))
@@ -321,11 +320,11 @@ module _ (tokens : List ℕ) where
     where
       go : {left : List Seen} (kind : ℕ) (t : Bool) (x : LexError) → eqb kind Token.Eof ≡ false → AtEnd left → Passed (seen t x i kind (seen_from tokens (suc i) (length ws))) left
           → (Passed (seen_from tokens (suc i) (length ws)) left → Clean (seen_from tokens (suc i) (length ws))) → Clean (seen t x i kind (seen_from tokens (suc i) (length ws)))
-      go kind true Nothing n a p ih = ih p
-      go kind true (Is error) n a p ih = absurd (passed-sound p (end-sound a))
-      go kind false Nothing n a none_passed ih = absurd (true≢false (sym (eq-eqb kind Token.Eof (no_end a)) ∙ n))
-      go kind false Nothing n a (one-passed p) ih = also (ih p)
-      go kind false (Is error) n a p ih = absurd (passed-sound p (end-sound a))
+      go kind true None n a p ih = ih p
+      go kind true (Some error) n a p ih = absurd (passed-sound p (end-sound a))
+      go kind false None n a none_passed ih = absurd (true≢false (sym (eq-eqb kind Token.Eof (no_end a)) ∙ n))
+      go kind false None n a (one-passed p) ih = also (ih p)
+      go kind false (Some error) n a p ih = absurd (passed-sound p (end-sound a))
 
   -- A row that was passed up to Eof is read whole.
   pub passed-clean : {limit : ℕ} {left : List Seen} → Laid limit 0 tokens → Passed (seen_from tokens 0 (length tokens)) left → AtEnd left → Clean (seen_from tokens 0 (length tokens))

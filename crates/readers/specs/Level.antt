@@ -1,45 +1,63 @@
 -- A reading one level deeper: entering it, and where no level is left.
-use Rattle.std.specs.Prelude.{◌≡◌, refl, Bool, true, false, List, eqb}
+use Rattle.std.specs.Prelude.{◌≡◌, refl, Bool, true, false}
 use Rattle.std.proofs.Math.Option.{Option}
-use Prim.Native.Nat.{ℕ, zero, suc, ◌-◌}
-use Rattle.std.proofs.Common.{arith, eqb-true}
+use Prim.Native.Nat.{ℕ, zero, suc, ◌+◌, ◌-◌}
+use Rattle.std.proofs.Common.{arith}
 use Rattle.std.proofs.Math.Numerals.{sub-one}
-use Rattle.std.proofs.lemmas.Bool.{eqb-false}
 use Rattle.words.specs.Refusal
 use Rattle.definition.specs.declared.State.{State}
 use Rattle.definition.specs.declared.Mode.{Mode}
 use Rattle.definition.specs.Prog.{Prog, Memory, refused, eval, tower, enter_expr, enter_block}
 use Rattle.definition.specs.Expressions.{try_parse_expr_min_bp}
 use Rattle.definition.specs.Statements.{parse_block}
-use Rattle.reading.specs.declared.Reading.{Reading}
-use Rattle.reading.specs.Does.{Does, run, stays, halts}
+use Rattle.reading.specs.declared.parser.Parser.{Parser}
+use Rattle.reading.specs.Standing.{is_refused, words, Kept}
+use Rattle.reading.specs.Does.{Does, view, from, run, run_of, stays, halts}
 use Rattle.readers.specs.Readers.{too_deep}
 
-module _ {text tokens : List ℕ} {d : ℕ} {r : Reading} {m : Memory} where
+module _ {p : Parser} where
   -- No level is left.
-  out : {A : Type 0} {p : Prog A} {a : A} → ((s : State) (n : Memory) → run text tokens d p s n ≡ refused Refusal.TooDeep s.cursor.at) → Does text tokens d p r m a (too_deep r) m
-  out {p = p} {a = a} e = go (eqb r.refusal 0) refl
+  out : {A : Type 0} {c : Prog A} {a : A} → ((s : State) (m : Memory) → run p c s m ≡ refused Refusal.TooDeep s.cursor.at) → Does c p a (too_deep p)
+  out {c = c} {a = a} e = go (is_refused p) refl
     where
-      go : (b : Bool) → eqb r.refusal 0 ≡ b → Does text tokens d p r m a (too_deep r) m
-      go true h = rw h (halts (eqb-true r.refusal 0 h) (λ z. omega arith) (e r.state m))
-      go false h = rw h (stays (eqb-false r.refusal 0 h))
+      go : (b : Bool) → is_refused p ≡ b → Does c p a (too_deep p)
+      go true h = rw h (stays h)
+      go false h = rw h (halts h (e p.state (words p)))
 
-module _ {text tokens : List ℕ} {r : Reading} {m : Memory} where
-  pub no-expr : {d : ℕ} {mode : Mode} {min : ℕ} {a : Option ℕ} → d ≡ 0 → Does text tokens d (enter_expr mode min) r m a (too_deep r) m
+  pub no-expr : {mode : Mode} {min : ℕ} {a : Option ℕ} → p.levels ≡ 0 → Does (enter_expr mode min) p a (too_deep p)
   unfolding eval tower
-  no-expr h = rw h (out (λ s n. refl))
+  no-expr h = out (λ s m. rw h)
 
-  pub no_block : {d start kind a : ℕ} → d ≡ 0 → Does text tokens d (enter_block start kind) r m a (too_deep r) m
+  pub no_block : {start kind a : ℕ} → p.levels ≡ 0 → Does (enter_block start kind) p a (too_deep p)
   unfolding eval tower
-  no_block h = rw h (out (λ s n. refl))
+  no_block h = out (λ s m. rw h)
 
-module _ {text tokens : List ℕ} {r r' : Reading} {m m' : Memory} where
-  pub expr-level : {d : ℕ} {mode : Mode} {min : ℕ} {a : Option ℕ} → (d ≡ 0 → ⊥) → Does text tokens (d - 1) (try_parse_expr_min_bp mode min) r m a r' m' → Does text tokens d (enter_expr mode min) r m a r' m'
-  unfolding eval tower
-  expr-level {d = zero} h g = absurd (h refl)
-  expr-level {d = suc e} h g = record { is = λ w. rw sub-one at (g.is w) }
+-- With one level less, and back again.
+abbrev pub deeper : Parser → Parser
+deeper p = record p { levels = p.levels - 1 }
 
-  pub block-level : {d start kind a : ℕ} → (d ≡ 0 → ⊥) → Does text tokens (d - 1) (parse_block start kind) r m a r' m' → Does text tokens d (enter_block start kind) r m a r' m'
+abbrev pub back : Parser → Parser
+back p = record p { levels = p.levels + 1 }
+
+module _ {p p₂ : Parser} (h : p.levels ≡ 0 → ⊥) where
+  level-kept : Kept (deeper p) p₂ → Kept p (back p₂)
+  level-kept k =
+      record { text = k.text; tokens = k.tokens; nodes = k.nodes; values = k.values; reports = k.reports; levels = omega (arith, k.levels, h) }
+
+  pub expr-level : {mode : Mode} {min : ℕ} {a : Option ℕ} → Does (try_parse_expr_min_bp mode min) (deeper p) a p₂ → Does (enter_expr mode min) p a (back p₂)
   unfolding eval tower
-  block-level {d = zero} h g = absurd (h refl)
-  block-level {d = suc e} h g = record { is = λ w. rw sub-one at (g.is w) }
+  expr-level {mode = mode} {min = min} {a = a} g = record { is = λ w. go p.levels h (g.is w); kept = level-kept g.kept }
+    where
+      go : (d : ℕ) → (d ≡ 0 → ⊥) → view a p₂ ≡ from p (run_of p.text.now p.tokens.now (d - 1) (try_parse_expr_min_bp mode min))
+          → view a p₂ ≡ from p (run_of p.text.now p.tokens.now d (enter_expr mode min))
+      go zero z e = absurd (z refl)
+      go (suc d) z e = rw sub-one at e
+
+  pub block-level : {start kind a : ℕ} → Does (parse_block start kind) (deeper p) a p₂ → Does (enter_block start kind) p a (back p₂)
+  unfolding eval tower
+  block-level {start = start} {kind = kind} {a = a} g = record { is = λ w. go p.levels h (g.is w); kept = level-kept g.kept }
+    where
+      go : (d : ℕ) → (d ≡ 0 → ⊥) → view a p₂ ≡ from p (run_of p.text.now p.tokens.now (d - 1) (parse_block start kind))
+          → view a p₂ ≡ from p (run_of p.text.now p.tokens.now d (enter_block start kind))
+      go zero z e = absurd (z refl)
+      go (suc d) z e = rw sub-one at e

@@ -1,27 +1,22 @@
 -- What the readers' contracts say beside the definition's programs.
-use Rattle.std.specs.Prelude.{cond, ℕ, eqb}
+use Rattle.std.specs.Prelude.{cond, ℕ}
 use Rattle.std.proofs.Math.Option.{Option}
 use Rattle.words.specs.Token
-use Rattle.words.specs.Refusal
 use Rattle.definition.specs.declared.Mode.TheVariants.{AllowAll}
 use Rattle.definition.specs.declared.Unfinished.{Unfinished}
 use Rattle.definition.specs.Prog.{Turn, Prog, ◌>>=◌, ◌>>◌, position}
 use Rattle.definition.specs.Tokens.{if_eat◌then◌else◌, if_check◌then◌else◌, expect}
 use Rattle.definition.specs.Nodes.{push_child}
 use Rattle.definition.specs.Expressions.{parse_expr, block_here, ElseIfs, fallback_arm, keyed_arm, Members, field_turn, no_member_turn}
-use Rattle.reading.specs.declared.Reading.{Reading}
-use Rattle.reading.specs.declared.Got.{Got}
-use Rattle.reading.specs.declared.Found.{Found}
-use Rattle.reading.specs.declared.Maybe.TheVariants.{Some}
-use Rattle.reading.specs.Does.{refused_at}
-use Rattle.answers.specs.declared.Stmt.{Stmt}
-use Rattle.answers.specs.declared.StmtResult.TheVariants.{Statement}
+use Rattle.reading.specs.declared.parser.Parser.{Parser}
+use Rattle.words.specs.declared.refusal.Refusal.TheVariants.{TooDeep}
+use Rattle.reading.specs.Standing.{is_refused, refused_at}
 use Rattle.answers.specs.declared.Longer.{Longer}
 use Rattle.answers.specs.Steps.{end_arm, arm_turn}
 
 -- A refusal, unless there was one before.
-abbrev pub too_deep : Reading → Reading
-too_deep s = cond (eqb s.refusal 0) (refused_at s Refusal.TooDeep) s
+abbrev pub too_deep : Parser → Parser
+too_deep p = cond (is_refused p) p (refused_at p TooDeep)
 
 -- What follows an expression that no `{` goes on from: its block.
 abbrev pub tail_of : Unfinished → ℕ → Prog Unfinished
@@ -29,14 +24,6 @@ tail_of u test = do
   u ← push_child u test
   body ← block_here
   push_child u body
-
--- A node that was found.
-abbrev pub found : Got → Found
-found n = record { it = Some n.it; at = n.at }
-
--- A statement that is whole.
-abbrev pub whole_stmt : Got → Stmt
-whole_stmt n = record { it = Statement n.it; at = n.at }
 
 abbrev pub else_ifs : Unfinished → Option ℕ → ElseIfs
 else_ifs list else_body = record { list = list; else_body = else_body }

@@ -1,18 +1,19 @@
--- Laws of the leaves: what a command's run is, by case.
-use Rattle.std.specs.Prelude.{◌≡◌, List, [], ℕ, ◌+◌, ◌*◌, ◌/◌, ◌≤◌, ◌<◌, length, set, get_or}
-use Rattle.std.proofs.Common.{◌∙◌, arith, le-leb}
+-- Laws of the report's command: what its run is, by case.
+use Rattle.std.specs.Prelude.{◌≡◌, true, false, ℕ, ◌+◌, ◌*◌, ◌/◌, ◌≤◌, ◌<◌, length, set, get_or, List}
+use Rattle.std.proofs.Common.{sym, ◌∙◌, arith, le-leb}
 use Rattle.std.proofs.Math.Numerals.{towards_suc}
 use Rattle.std.proofs.lemmas.Bool.{lt-leb}
 use Rattle.std.proofs.lemmas.List.Edits.{sets}
 use Rattle.words.specs.Refusal
+use Rattle.words.specs.declared.refusal.Refusal.TheVariants.{ReportsDontFit}
 use Rattle.words.specs.Words.{report_width, report_words}
 use Rattle.literals.specs.declared.Span.{Span}
 use Rattle.literals.specs.Spelling.{span}
 use Rattle.definition.specs.declared.State.{State}
 use Rattle.definition.specs.Prog.{emit, Memory, memory, done, refused, eval, reported, with_reports}
-use Rattle.reading.specs.declared.Reading.{Reading}
-use Rattle.reading.specs.Source.{plain-right}
-use Rattle.reading.specs.Does.{Does, view, from, refused_at, stays, goes, halts}
+use Rattle.reading.specs.declared.parser.Parser.{Parser}
+use Rattle.reading.specs.Standing.{is_refused, words, refused_at, Kept}
+use Rattle.reading.specs.Does.{Does, view, from, same, refused-kept, standing, not_refused}
 
 pub reported-full : (kind detail : ℕ) (p : Span) (s : State) (m : Memory) → length m.reports < report_width * s.reports + report_width
     → reported kind detail p s m ≡ refused Refusal.ReportsDontFit s.cursor.at
@@ -26,31 +27,37 @@ pub reported-fits : (kind detail : ℕ) (p : Span) (s : State) (m : Memory) → 
 unfolding reported
 reported-fits kind detail p s m h = rw (le-leb (report_width * s.reports + report_width) (length m.reports) h, reported)
 
--- A report is made, or doesn't fit. It needs neither the text nor its tokens.
-pub record Reports (kind detail : ℕ) (p : Span) (r : Reading) (m : Memory) (r' : Reading) (m' : Memory) : Type 0 where
-  pub is : view tt r' m' ≡ from r m (reported kind detail p)
+-- A report is made, or doesn't fit.
+pub record Reports (kind detail : ℕ) (q : Span) (p p' : Parser) : Type 0 where
+  pub is : view tt p' ≡ from p (reported kind detail q)
+  pub kept : Kept p p'
 
-pub emit-does : {text tokens : List ℕ} {d kind detail : ℕ} {p : Span} {r r' : Reading} {m m' : Memory} → Reports kind detail p r m r' m' → Does text tokens d (emit kind detail p) r m tt r' m'
+pub emit-does : {kind detail : ℕ} {q : Span} {p p' : Parser} → Reports kind detail q p p' → Does (emit kind detail q) p tt p'
 unfolding eval
-emit-does e = record { is = λ w. e.is }
+emit-does e = record { is = λ w. e.is; kept = e.kept }
 
-alone : {kind detail : ℕ} {p : Span} {r r' : Reading} {m m' : Memory} → Does [] [] 0 (emit kind detail p) r m tt r' m' → Reports kind detail p r m r' m'
-unfolding eval
-alone e = record { is = e.is (plain-right [] [] (omega arith)) }
+pub emit-stays : {kind detail : ℕ} {q : Span} {p : Parser} → is_refused p ≡ true → Reports kind detail q p p
+emit-stays {kind = kind} {detail = detail} {q = q} {p = p} h = record { is = standing tt p (reported kind detail q) h; kept = same }
 
-pub emit-stays : {kind detail : ℕ} {p : Span} {r : Reading} {m : Memory} → (r.refusal ≡ 0 → ⊥) → Reports kind detail p r m r m
-emit-stays h = alone (stays h)
+module _ (p : Parser) (h : is_refused p ≡ false) (kind detail start end : ℕ) where
+  pub emit-full : length p.reports.now / 3 ≤ p.state.reports → Reports kind detail (span start end) p (refused_at p ReportsDontFit)
+  emit-full g =
+      record {
+        is = rw (not_refused p h) (sym (reported-full kind detail (span start end) p.state (words p) (omega arith)));
+        kept = refused-kept;
+      }
 
-module _ (r : Reading) (ns vs rs : List ℕ) (h : r.refusal ≡ 0) (kind detail start end : ℕ) where
-  abbrev p : Span
-  p = span start end
-
-  pub emit-full : length rs / 3 ≤ r.state.reports → Reports kind detail p r (memory ns vs rs) (refused_at r Refusal.ReportsDontFit) (memory ns vs rs)
-  emit-full g = alone (halts h (λ e. omega arith) (unfold eval in (reported-full kind detail p r.state (memory ns vs rs) (omega arith))))
-
-  pub emit-fits : (r' : Reading) (ws : List ℕ) → r.state.reports < length rs / 3 → r'.refusal ≡ 0 → r'.state ≡ with_reports (r.state.reports + 1) r.state
+  pub emit-fits : (p' : Parser) (ws : List ℕ) → p.state.reports < length p.reports.now / 3
       → ws ≡ report_words (record { kind = kind; detail = detail; start = start; end = end })
-      → Reports kind detail p r (memory ns vs rs) r'
-      (memory ns vs (set (set (set rs (3 * r.state.reports) (get_or ws 0 0)) (3 * r.state.reports + 1) (get_or ws 1 0)) (3 * r.state.reports + 2) (get_or ws 2 0)))
-  emit-fits r' ws g k e f =
-      alone (goes h k (unfold eval in (reported-fits kind detail p r.state (memory ns vs rs) (omega arith) ∙ (rw (e, f) (simp towards_suc)))))
+      → p'.refused ≡ p.refused → Kept p p' → p'.state ≡ with_reports (p.state.reports + 1) p.state
+      → words p'
+      ≡ memory p.nodes.now p.values.now
+      (set (set (set p.reports.now (3 * p.state.reports) (get_or ws 0 0)) (3 * p.state.reports + 1) (get_or ws 1 0)) (3 * p.state.reports + 2) (get_or ws 2 0))
+      → Reports kind detail (span start end) p p'
+  emit-fits p' ws g e f k s w =
+      record {
+        is =
+            rw (f, not_refused p h)
+            (sym (rw (s, w, e) (reported-fits kind detail (span start end) p.state (words p) (omega arith) ∙ simp towards_suc)));
+        kept = k;
+      }

@@ -1,24 +1,17 @@
-// What the parser's functions hand on: where reading stands, and what they answer.
+// The parser: what it is lent, where it stands, and whether it was refused. Each function of the parser takes it first.
 #![tactic(auto)]
 
 ghost use Rattle.std.specs.Prelude.{◌≡◌};
-ghost use Rattle.reading.specs.Does.{refused_at};
+ghost use Rattle.reading.specs.Standing.{is_refused, refused_at};
 
+pub mod parser;
 pub mod report;
 
-use definition::{State, Unfinished};
-
-// Where reading stands, and whether it was refused: a refusal's number, or 0, and its place. Once refused, it stays so:
-// each function then changes nothing that counts, so a reader needs no way out after each call.
-#[derive(Clone, Copy)]
-pub struct Reading {
-    pub state: State,
-    pub refusal: u32,
-    pub place: u32,
-}
+pub use parser::Parser;
+use words::Refusal;
 
 // "Priorities 19 and 21 belong to the parser's type as constants" (01).
-impl Reading {
+impl Parser<'_> {
     pub const ZERO: u32 = 0;
 
     pub const UNARY_PRIORITY: u32 = 19;
@@ -28,50 +21,17 @@ impl Reading {
     pub const FN_CALL_PRIORITY: u32 = 21;
 
     pub const STRUCT_LITERAL_PRIORITY: u32 = 21;
-}
 
-// What may be missing.
-#[derive(Clone, Copy)]
-pub enum Maybe {
-    Some(u32),
-    None,
-}
+    pub fn is_refused(&self) -> bool
+        ensures { result ≡ is_refused self.now }
+    {
+        self.refused.is_some()
+    }
 
-// What a function answers, and where reading then stands: a number (a node's, a token's kind), a test, a node that may be
-// missing, a node that is still open.
-#[derive(Clone, Copy)]
-pub struct Got {
-    pub at: Reading,
-    pub it: u32,
-}
-
-#[derive(Clone, Copy)]
-pub struct Told {
-    pub at: Reading,
-    pub is: bool,
-}
-
-#[derive(Clone, Copy)]
-pub struct Found {
-    pub at: Reading,
-    pub it: Maybe,
-}
-
-#[derive(Clone, Copy)]
-pub struct Opened {
-    pub at: Reading,
-    pub it: Unfinished,
-}
-
-// A reading that is refused from here on.
-pub fn refuse(s: Reading, number: u32) -> Reading
-    ensures { result ≡ refused_at s number }
-{
-    let state = s.state;
-    let cursor = state.cursor;
-    Reading {
-        state,
-        refusal: number,
-        place: cursor.at,
+    // Refused from here on.
+    pub fn refuse(&mut self, refusal: Refusal)
+        ensures { self.new ≡ refused_at self.old refusal }
+    {
+        self.refused = Some(refusal.at(self.state.cursor.at));
     }
 }

@@ -10,9 +10,9 @@ use Rattle.std.proofs.lemmas.Bool.{eqb-false}
 use Rattle.std.proofs.lemmas.List.Edits.{sets}
 use Rattle.words.specs.Node
 use Rattle.words.specs.Report
-use Rattle.words.specs.Token.{is_trivia, lex_error}
-use Rattle.words.specs.declared.token.LexError.{LexError}
-use Rattle.words.specs.declared.token.LexError.TheVariants.{Is, Nothing}
+use Rattle.words.specs.ErrorToken.{error_number}
+use Rattle.words.specs.Token.{is_trivia, lex_error, LexError}
+use Rattle.std.specs.Prelude.{Some, None}
 use Rattle.words.specs.Words.{node_width, node_kind, node_words, report_width}
 use Rattle.literals.specs.declared.Span.{Span}
 use Rattle.literals.specs.Spelling as Source
@@ -213,9 +213,9 @@ module _ (text tokens : List ℕ) where
       t : State
       t = with_cursor (advanced s.cursor) s
 
-      go : (e : LexError) → Kept {A = Unit {0}} s m (elim e [ Nothing ↦ done tt t m | Is error ↦ elim (is_marked s) [ true ↦ done tt t m | false ↦ reported Report.LexerError error (Source.token_span tokens s.cursor.at) t m ] ])
-      go Nothing = kept refl refl
-      go (Is error) = one_kept (is_marked s) (kept refl refl) (one_kept (leb (report_width * s.reports + report_width) (length m.reports)) (kept refl refl) stopped)
+      go : (e : LexError) → Kept {A = Unit {0}} s m (elim e [ None ↦ done tt t m | Some error ↦ elim (is_marked s) [ true ↦ done tt t m | false ↦ reported Report.LexerError (error_number error) (Source.token_span tokens s.cursor.at) t m ] ])
+      go None = kept refl refl
+      go (Some error) = one_kept (is_marked s) (kept refl refl) (one_kept (leb (report_width * s.reports + report_width) (length m.reports)) (kept refl refl) stopped)
 
   skipped-kept : (left : ℕ) (s : State) (m : Memory) → Kept s m (skipped text tokens left s m)
   unfolding skipped

@@ -6,16 +6,16 @@ use mathlib.Core.List.{List, [], ◌∷◌}
 use Rattle.std.proofs.Math.Bool.{true}
 use Rattle.std.proofs.lemmas.Bool.{false≢true}
 use native.Mathlib.Omega.{arith}
-use borrow.Author.Tests.{eq-eqb, ne_eqb, eqb-false, leb-true, le-leb}
+use borrow.Author.Tests.{eq-eqb, ne_eqb, eqb-true, eqb-false, leb-true, le-leb}
 use Rattle.words.specs.Token as TokenKind
 use Rattle.utf8.specs.Utf8.{character_at}
 use Rattle.utf8.specs.declared.Character.{Character}
-use Rattle.utf8.specs.declared.Character.TheVariants.{Is, Nothing}
+use Rattle.std.specs.Prelude.{Option, Some, None}
 use Rattle.scan.specs.declared.Token.{Token}
-use Rattle.scan.specs.Bytes.{within, ident_start, ident_part, digit, blank}
+use Rattle.scan.specs.Bytes.{Class, within, ident_start, ident_part, digit, blank}
 use Rattle.scan.specs.Comments.{behind, behind-all}
 use Rattle.scan.specs.Lexer.{Fixed, longest_text, Lexeme, lexeme, more, from, run, token_at, line_comment, block_comment, string, invalid_char, punctuation}
-use Rattle.scan.specs.Longest.{same, keyword_of, and_both}
+use Rattle.scan.specs.Longest.{same, keyword_of, and_both, run_length}
 use Rattle.scan.specs.Laws.{within_low, ended, rest-cons, from_more, from_zero}
 use Rattle.rules.specs.Rule.{class_of, goes_on, stop, start, name, blanks, quote, hex_quote, line, block, mark_of, rows, after, kind_of, marks, numeric, operator}
 use Rattle.rules.specs.Alike.{below, below_at, between, numeral-on, numeral-over, operator-over, operator-ends}
@@ -63,6 +63,36 @@ pub walk-stay : (text : List ℕ) (i q : ℕ) (t : Token) (n : ℕ) → i < leng
 walk-stay text i q t n h a b en e p =
     let g : goes_on n ≡ true = rw (e, le-leb 97 q a, le-leb q 122 b) in
     rw e at (walk-next text i q t n true h en (sym g) refl p)
+
+-- the bytes that leave a state as it is
+abbrev pub keeps : ℕ → Class
+keeps q b = eqb (after q b) q
+
+kept-byte : (q b i : ℕ) (s : List ℕ) → goes_on q ≡ true → after q b ≡ q → from i (walk q (b ∷ s)) ≡ from (i + 1) (walk q s)
+unfolding walk
+kept-byte q b i s g e = rw (e, g) (from_more i 1 (walk q s))
+
+-- The walk goes over a run of them in one step.
+kept-run : (q : ℕ) → goes_on q ≡ true → (s : List ℕ) (i : ℕ) → from (i + run (keeps q) s) (walk q (drop (run (keeps q) s) s)) ≡ from i (walk q s)
+unfolding run
+kept-run q g [] i = let z : i + 0 ≡ i = omega arith in ap (λ (j : ℕ). from j (walk q [])) z
+kept-run q g (b ∷ s) i = go (eqb (after q b) q) refl (kept-run q g s (i + 1))
+  where
+    go : (t : Bool) → eqb (after q b) q ≡ t → from (i + 1 + run (keeps q) s) (walk q (drop (run (keeps q) s) s)) ≡ from (i + 1) (walk q s)
+        → from (i + cond t (suc (run (keeps q) s)) 0) (walk q (drop (cond t (suc (run (keeps q) s)) 0) (b ∷ s))) ≡ from i (walk q (b ∷ s))
+    go true e h =
+        let z : i + suc (run (keeps q) s) ≡ i + 1 + run (keeps q) s = omega arith in
+        ap (λ (j : ℕ). from j (walk q (drop (run (keeps q) s) s))) z ∙ (h ∙ sym (kept-byte q b i s g (eqb-true (after q b) q e)))
+    go false e h = let z : i + 0 ≡ i = omega arith in ap (λ (j : ℕ). from j (walk q (b ∷ s))) z
+
+pub walk-run : (text : List ℕ) (at q r : ℕ) → 97 ≤ q → q ≤ 122 → at ≤ length text → r ≡ at + run (keeps q) (drop at text)
+    → (from r (walk q (drop r text)) ≡ from at (walk q (drop at text))) × (at ≤ r) × (r ≤ length text)
+walk-run text at q r a b h e =
+    let n = run (keeps q) (drop at text) in
+    let g : goes_on q ≡ true = rw (le-leb 97 q a, le-leb q 122 b) in
+    let short : n ≤ length (drop at text) = run_length (keeps q) (drop at text) in
+    let kept : from (at + n) (walk q (drop (at + n) text)) ≡ from at (walk q (drop at text)) = rw (drop-drop n at text) at (kept-run q g (drop at text) at) in
+    (rw e kept, omega (arith, e), omega (arith, e, short, length-drop at text))
 
 pub walk-go : (text : List ℕ) (i q : ℕ) (t : Token) (n : ℕ) (g : Bool) (r : ℕ) → i < length text → n ≡ after q (get_or text i 0) → g ≡ goes_on n → g ≡ true
     → from r (walk n (drop r text)) ≡ from (i + 1) (walk n (drop (i + 1) text)) → from i (walk q (drop i text)) ≡ t → from r (walk n (drop r text)) ≡ t
@@ -125,19 +155,19 @@ on-high g n e f = leb-true n 122 (and_both (leb 97 n) (leb n 122) (sym e ∙ f))
 -- ------------------------------------------------------------------ the token of an end
 
 -- how long an invalid character is
-abbrev pub invalid_len : Character → ℕ
-invalid_len (Is c n) = n
-invalid_len Nothing = 1
+abbrev pub invalid_len : Option Character → ℕ
+invalid_len (Some c) = c.length
+invalid_len None = 1
 
 invalid-char : (x : List ℕ) → invalid_char x ≡ lexeme TokenKind.InvalidCharError (invalid_len (character_at x))
 unfolding invalid_char
 invalid-char x = go (character_at x)
   where
-    go : (c : Character) → elim c [ Is c n ↦ lexeme TokenKind.InvalidCharError n | Nothing ↦ lexeme TokenKind.InvalidCharError 1 ] ≡ lexeme TokenKind.InvalidCharError (invalid_len c)
-    go (Is c n) = refl
-    go Nothing = refl
+    go : (c : Option Character) → elim c [ Some c ↦ lexeme TokenKind.InvalidCharError c.length | None ↦ lexeme TokenKind.InvalidCharError 1 ] ≡ lexeme TokenKind.InvalidCharError (invalid_len c)
+    go (Some c) = refl
+    go None = refl
 
-pub invalid-is : (text : List ℕ) (at len : ℕ) (c : Character) → c ≡ character_at (drop at text) → invalid_len c ≡ len
+pub invalid-is : (text : List ℕ) (at len : ℕ) (c : Option Character) → c ≡ character_at (drop at text) → invalid_len c ≡ len
     → ended TokenKind.InvalidCharError (at + len) ≡ from at (invalid_char (drop at text))
 invalid-is text at len c e f = rw (invalid-char (drop at text), ← e, f)
 

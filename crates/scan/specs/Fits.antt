@@ -6,7 +6,7 @@ use Rattle.words.specs.Token as TokenKind
 use Rattle.utf8.specs.Utf8.{character_at}
 use Rattle.utf8.specs.Laws.{character-fits}
 use Rattle.utf8.specs.declared.Character.{Character}
-use Rattle.utf8.specs.declared.Character.TheVariants.{Is, Nothing}
+use Rattle.std.specs.Prelude.{Option, Some, None}
 use Rattle.scan.specs.Bytes.{Class, ident_part, is_digit}
 use Rattle.scan.specs.Lexer.{Lexeme, lexeme, more, plain, Rule, token, regex, run, spelled, classed, matched, callback, Match, longest, Fixed, rule, punctuation, keywords, others, rules, no_match, finish, token_at, string, number, block_comment, line_comment, invalid_char}
 use Rattle.scan.specs.Longest.{and_both, run_length}
@@ -141,9 +141,9 @@ finish-fits : (b : ℕ) (s : List ℕ) (m : Match) → Fit (b ∷ s) m → Token
 unfolding invalid_char
 finish-fits b s m nothing = go (character_at (b ∷ s)) refl
   where
-    go : (c : Character) → character_at (b ∷ s) ≡ c → TokenFits (b ∷ s) (more 0 (elim c [ Is c n ↦ lexeme TokenKind.InvalidCharError n | Nothing ↦ lexeme TokenKind.InvalidCharError 1 ]))
-    go (Is c n) e = let h = character-fits (b ∷ s) c n e in record { some = omega arith; within = omega arith }
-    go Nothing e = record { some = omega arith; within = omega arith }
+    go : (c : Option Character) → character_at (b ∷ s) ≡ c → TokenFits (b ∷ s) (more 0 (elim c [ Some c ↦ lexeme TokenKind.InvalidCharError c.length | None ↦ lexeme TokenKind.InvalidCharError 1 ]))
+    go (Some c) e = let h = character-fits (b ∷ s) c e in record { some = omega arith; within = omega arith }
+    go None e = record { some = omega arith; within = omega arith }
 finish-fits b s m (some h g w) =
     let k = w (drop m.len (b ∷ s)) in
     record { some = omega arith; within = omega (arith, length-drop m.len (b ∷ s)) }

@@ -1,6 +1,7 @@
 -- Laws of the lexer's definition at an offset of the text: how each scan stops, goes on, and ends with the text.
-use Rattle.std.specs.Prelude.{◌≡◌, refl, List, [], ◌∷◌, ◌⊎◌, Bool, true, false, cond, not, ◌&&◌, ◌||◌, eqb, leb, ltb, get_or, drop}
+use Rattle.std.specs.Prelude.{◌≡◌, refl, List, [], ◌∷◌, ◌⊎◌, Bool, true, false, cond, not, ◌&&◌, ◌||◌, eqb, leb, ltb, get_or, take, drop}
 use Rattle.std.proofs.Math.Path.{sym}
+use Rattle.std.specs.Cmp.Lexicographic.{pointwise}
 use Rattle.std.proofs.Common.{◌∙◌, ap, inl, inr, ⊎_elim, add-zero, add-one, sub-one, length-drop, drop-cons}
 use Rattle.std.proofs.lemmas.Bool.{false≢true}
 use Prim.Native.Nat.{ℕ, suc, pred, ◌+◌, ◌-◌, ◌≤◌, ◌<◌}
@@ -42,6 +43,9 @@ inside text j y e = ⊎_elim (λ h. h) out (lt-or-le j (length text))
   where
     out : length text ≤ j → j < length text
     out h = absurd (false≢true (sym (eqb-zero-suc y) ∙ (rw (get_or-eq_default text 0 h) at e)))
+
+pub inside_at : (text : List ℕ) (j y : ℕ) → get_or text j 0 ≡ suc y → j < length text
+inside_at text j y e = inside text j y (rw (eq-eqb (get_or text j 0) (suc y) e))
 
 and_right : (p q : Bool) → (p && q) ≡ true → q ≡ true
 and_right true q e = e
@@ -242,3 +246,13 @@ spelled-long w text at h = go (spelled w (drop at text)) refl
     go : (t : Bool) → spelled w (drop at text) ≡ t → false ≡ t
     go true e = absurd (let k = spelled-within w (drop at text) e in omega (arith, length-drop at text))
     go false e = refl
+
+-- The library's `starts_with` gives whether the text is spelled so.
+pub starts-spelled : (w s : List ℕ) → pointwise eqb w (take (length w) s) ≡ spelled w s
+unfolding spelled
+starts-spelled [] s = refl
+starts-spelled (a ∷ w) [] = refl
+starts-spelled (a ∷ w) (b ∷ s) = ap (λ (t : Bool). eqb a b && t) (starts-spelled w s)
+
+pub spelled-starts : (w s : List ℕ) (r : Bool) → r ≡ pointwise eqb w (take (length w) s) → r ≡ spelled w s
+spelled-starts w s r e = e ∙ starts-spelled w s

@@ -5,7 +5,7 @@ use Prim.Native.String.{String}
 use Rattle.words.specs.Token as TokenKind
 use Rattle.words.specs.Words.{token_word}
 use Rattle.utf8.specs.Utf8.{character_at}
-use Rattle.utf8.specs.declared.Character.TheVariants.{Is, Nothing}
+use Rattle.std.specs.Prelude.{Some, None}
 use Rattle.scan.specs.declared.Token.{Token}
 use Rattle.scan.specs.Bytes.{ascii, Class, none, digit, ident_start, ident_part, blank, is_digit}
 
@@ -214,7 +214,7 @@ rules = map rule punctuation ++ (map rule keywords ++ others)
 
 -- A character that starts no token is one InvalidCharError. (In UTF-8 there is always a character.)
 unfoldable pub invalid_char : List ℕ → Lexeme
-invalid_char s = elim (character_at s) [ Is c n ↦ lexeme TokenKind.InvalidCharError n | Nothing ↦ lexeme TokenKind.InvalidCharError 1 ]
+invalid_char s = elim (character_at s) [ Some c ↦ lexeme TokenKind.InvalidCharError c.length | None ↦ lexeme TokenKind.InvalidCharError 1 ]
 
 abbrev pub no_match : Match
 no_match = record { len = 0; after = invalid_char }

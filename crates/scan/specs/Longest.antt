@@ -1,6 +1,7 @@
 -- Laws of the longest match: which rule it is, by the first byte of the text's rest.
 use Rattle.std.specs.Prelude.{◌≡◌, Bool, not, ◌&&◌, ◌||◌, ℕ, zero, suc, ◌≤◌, ◌<◌, eqb, leb, length, get_or, drop, take}
 use Rattle.std.proofs.Math.Path.{refl}
+use Rattle.std.specs.Cmp.Lexicographic.{pointwise}
 use Rattle.std.proofs.Common.{sym, ◌∙◌, ap, length-take}
 use mathlib.Core.List.{List, [], ◌∷◌, ◌++◌, map}
 use Rattle.std.proofs.Math.Bool.{true, false, cond}
@@ -311,6 +312,14 @@ outside (x ∷ xs) b a (next f o) h e = go (eqb a x) refl h (λ k. outside xs b 
     go : (t : Bool) → eqb a x ≡ t → (t || holds xs a) ≡ true → (holds xs a ≡ true → ⊥) → ⊥
     go true g k r = f (e ∙ eqb-true a x g)
     go false g k r = r k
+
+-- the library's comparison of two lists is the same
+pub equal-same : (w v : List ℕ) → pointwise eqb w v ≡ same w v
+unfolding same
+equal-same [] [] = refl
+equal-same [] (b ∷ v) = refl
+equal-same (a ∷ w) [] = refl
+equal-same (a ∷ w) (b ∷ v) = ap (λ (t : Bool). eqb a b && t) (equal-same w v)
 
 pub same_head : (w v : List ℕ) → same w v ≡ true → get_or w 0 0 ≡ get_or v 0 0
 unfolding same

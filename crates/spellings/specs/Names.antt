@@ -1,5 +1,6 @@
 -- Laws of spellings that are alike, and of the first of them.
 use Rattle.std.specs.Prelude.{◌≡◌, refl, Bool, true, false, ◌&&◌, List, [], ◌∷◌, ℕ, suc, ◌+◌, ◌≤◌, ◌<◌, eqb, length, get_or, drop}
+use Rattle.std.specs.Cmp.Lexicographic.{pointwise}
 use Rattle.std.proofs.Common.{◌∙◌, ap, arith, add-one, eq-eqb, ne_eqb, drop_of_length-le}
 use Rattle.std.proofs.Math.Bool.{and-false}
 use Rattle.std.proofs.Math.ListN.{get_or-eq_default}
@@ -9,6 +10,14 @@ use Rattle.words.specs.Words.{token_word, token_kind, token_end, pack, high}
 use Rattle.lexer.specs.Lex.{spelling_of}
 use Rattle.literals.specs.Spelling.{word_at, token_start, spelling, alike, first_from, first_alike}
 use Rattle.spellings.specs.Spelled.{within, spelled}
+
+-- The library's `==` gives whether they are alike.
+pub equal-alike : (a b : List ℕ) → pointwise eqb a b ≡ alike a b
+unfolding alike
+equal-alike [] [] = refl
+equal-alike [] (y ∷ b) = refl
+equal-alike (x ∷ a) [] = refl
+equal-alike (x ∷ a) (y ∷ b) = ap (λ (t : Bool). eqb x y && t) (equal-alike a b)
 
 pub alike-longer : (a b : List ℕ) → (length a ≡ length b → ⊥) → alike a b ≡ false
 unfolding alike

@@ -11,51 +11,28 @@ use words::token;
 pub fn kind_at(tokens: &[u32], i: usize) -> u32
     ensures { result ≡ token_kind (word_at tokens.now i) }
 {
-    if tokens.len() <= i {
-        return token::EOF;
+    match tokens.get(i) {
+        Some(word) => words::token_kind(*word),
+        None => token::EOF,
     }
-    words::token_kind(tokens[i])
 }
 
 // Whether token `n` is of the kind and spelled `name`.
 pub fn named(text: &[u8], tokens: &[u32], kind: u32, name: &[u8], n: usize) -> bool
     ensures { result ≡ (eqb (token_kind (word_at tokens.now n)) kind && alike (spelling text.now tokens.now n) name.now) }
 {
-    if kind_at(tokens, n) != kind {
-        return false;
-    }
-    let spelled = lexer::spelling(text, tokens, n);
-    if spelled.len() != name.len() {
-        return false;
-    }
-    for j in 0..name.len() {
-        if spelled[j] != name[j] {
-            return false;
-        }
-    }
-    true
+    kind_at(tokens, n) == kind && lexer::spelling(text, tokens, n) == name
 }
 
-// The number of the first token of the kind that is spelled as token `i`. Where a byte differs, the scan of bytes goes on to the next
-// token.
+// The number of the first token of the kind that is spelled as token `i`.
 pub fn first_alike(text: &[u8], tokens: &[u32], kind: u32, i: u32) -> usize
     ensures { result ≡ first_alike text.now tokens.now kind i }
 {
     let name = lexer::spelling(text, tokens, i as usize);
-    'tokens: for n in 0..tokens.len() {
-        if kind_at(tokens, n) != kind {
-            continue;
+    for n in 0..tokens.len() {
+        if named(text, tokens, kind, name, n) {
+            return n;
         }
-        let other = lexer::spelling(text, tokens, n);
-        if other.len() != name.len() {
-            continue;
-        }
-        for j in 0..name.len() {
-            if other[j] != name[j] {
-                continue 'tokens;
-            }
-        }
-        return n;
     }
     tokens.len()
 }

@@ -8,51 +8,63 @@ use Rattle.words.specs.Token
 use Rattle.literals.specs.declared.Span.{Span}
 use Rattle.literals.specs.Spelling.{span, token_start, word_at}
 use Rattle.definition.specs.declared.Cursor.{Cursor}
-use Rattle.definition.specs.Prog.{Act, Turn, again, stop, ◌>>=◌, whether◌then◌else◌, Memory, done, kind_at, advanced, passed, skip_trivia, is_marked, marked_here, peek, pass, here, before, marked, position, emit, emit_and_mark, eval}
+use Rattle.definition.specs.Prog.{Act, Turn, again, stop, ◌>>=◌, whether◌then◌else◌, done, kind_at, advanced, passed, skip_trivia, is_marked, marked_here, peek, pass, here, before, marked, position, emit_and_mark, eval}
 use Rattle.definition.specs.Tokens.{contains, emit_unexpected}
-use Rattle.reading.specs.declared.Reading.{Reading}
-use Rattle.reading.specs.Does.{Does, view, from, run, then-view}
+use Rattle.reading.specs.declared.parser.Parser.{Parser}
+use Rattle.reading.specs.Does.{Does, Steps, view, from, run, then-view, same, kept_then}
+use Rattle.reading.specs.Leaves.{Reports}
 use Rattle.stream.specs.Skip.{moved, kind-any}
 use Rattle.stream.specs.Trivia.{stays_here, passes-here}
 
-module _ (text tokens : List ℕ) (d : ℕ) (s r : Reading) (m m₁ : Memory) (e : view tt r m₁ ≡ from s m (skip_trivia text tokens)) where
-  pub peek_is : (k : ℕ) → k ≡ kind_at [] tokens r.state.cursor → Does text tokens d peek s m k r m₁
-  peek_is k f = record { is = λ w. then-view tt k s r r m m₁ m₁ (skip_trivia text tokens) (run text tokens d peek) (λ _ t n. done (kind_at text tokens t.cursor) t n) e there (λ t n. unfold eval in refl) }
+module _ {p r : Parser} (e : Steps skip_trivia p r) where
+  pub peek_is : (k : ℕ) → k ≡ kind_at [] p.tokens.now r.state.cursor → Does peek p k r
+  peek_is k f =
+      record {
+        is = λ w. then-view tt k p r r (skip_trivia p.text.now p.tokens.now) (run p peek) (λ _ t n. done (kind_at p.text.now p.tokens.now t.cursor) t n) e.is there (λ t n. unfold eval in refl);
+        kept = e.kept;
+      }
     where
-      there : view k r m₁ ≡ from r m₁ (λ t n. done (kind_at text tokens t.cursor) t n)
-      there = ap (λ (x : ℕ). view x r m₁) (f ∙ kind-any text tokens r.state.cursor)
+      there : view k r ≡ from r (λ t n. done (kind_at p.text.now p.tokens.now t.cursor) t n)
+      there = ap (λ (x : ℕ). view x r) (f ∙ kind-any p.text.now p.tokens.now r.state.cursor)
 
-  pub pass-is : (r₂ : Reading) (m₂ : Memory) → view tt r₂ m₂ ≡ from r m₁ (passed text tokens) → Does text tokens d pass s m tt r₂ m₂
-  pass-is r₂ m₂ f = record { is = λ w. then-view tt tt s r r₂ m m₁ m₂ (skip_trivia text tokens) (run text tokens d pass) (λ _ t n. passed text tokens t n) e f (λ t n. unfold eval in refl) }
+  pub pass-is : {r₂ : Parser} → Steps passed r r₂ → Does pass p tt r₂
+  pass-is {r₂ = r₂} g =
+      record {
+        is = λ w. then-view tt tt p r r₂ (skip_trivia p.text.now p.tokens.now) (run p pass) (λ _ t n. passed p.text.now p.tokens.now t n) e.is there (λ t n. unfold eval in refl);
+        kept = kept_then e.kept g.kept;
+      }
+    where
+      go : (a a' b b' : List ℕ) → a' ≡ a → b' ≡ b → view tt r₂ ≡ from r (passed a' b') → view tt r₂ ≡ from r (passed a b)
+      go a a' b b' x y z = rw (x, y) at z
+
+      there : view tt r₂ ≡ from r (passed p.text.now p.tokens.now)
+      there = go p.text.now r.text.now p.tokens.now r.tokens.now (cc e.kept.text) (cc e.kept.tokens) g.is
 
 -- A token of a kind below that of blanks is passed by a step of the cursor.
-pub pass-here : {text tokens : List ℕ} {d : ℕ} {s next : Reading} {m : Memory} {c : Cursor} (k : ℕ) → k ≡ kind_at [] tokens s.state.cursor → k < Token.Whitespace
-    → c ≡ advanced s.state.cursor → next ≡ moved s c → Does text tokens d pass s m tt next m
-pass-here {text = text} {tokens = tokens} {d = d} {s = s} {next = next} {m = m} {c = c} k ek h ec en =
-    pass-is text tokens d s s m m (stays_here text tokens s m k ek h) next m (passes-here text tokens s m k ek h c next ec en)
+pub pass-here : {p : Parser} {c : Cursor} (k : ℕ) → k ≡ kind_at [] p.tokens.now p.state.cursor → k < Token.Whitespace → c ≡ advanced p.state.cursor → Does pass p tt (moved p c)
+pass-here {p = p} {c = c} k ek h ec = pass-is (stays_here p k ek h) (passes-here p k ek h c ec)
 
 -- Commands that only look.
-module _ {text tokens : List ℕ} {d : ℕ} {r : Reading} {m : Memory} where
-  pub marked-is : {b : Bool} → b ≡ is_marked r.state → Does text tokens d marked r m b r m
+module _ {p : Parser} where
+  pub marked-is : {b : Bool} → b ≡ is_marked p.state → Does marked p b p
   unfolding eval
-  marked-is f = record { is = λ w. rw f }
+  marked-is f = record { is = λ w. rw f; kept = same }
 
-  pub position-is : {n : ℕ} → n ≡ r.state.cursor.at → Does text tokens d position r m n r m
+  pub position-is : {n : ℕ} → n ≡ p.state.cursor.at → Does position p n p
   unfolding eval
-  position-is f = record { is = λ w. rw f }
+  position-is f = record { is = λ w. rw f; kept = same }
 
-  pub here-is : {x y : ℕ} → x ≡ token_start tokens r.state.cursor.at → y ≡ token_end (word_at tokens r.state.cursor.at) → Does text tokens d here r m (span x y) r m
+  pub here-is : {x y : ℕ} → x ≡ token_start p.tokens.now p.state.cursor.at → y ≡ token_end (word_at p.tokens.now p.state.cursor.at) → Does here p (span x y) p
   unfolding eval
-  here-is f g = record { is = λ w. rw (f, g) }
+  here-is f g = record { is = λ w. rw (f, g); kept = same }
 
 -- The mark is put at the cursor's token.
-abbrev pub mark_here : Reading → Reading
-mark_here s = record { state = marked_here s.state; refusal = s.refusal; place = s.place }
+abbrev pub mark_here : Parser → Parser
+mark_here p = record p { state = marked_here p.state }
 
-pub mark-emit : {text tokens : List ℕ} {d : ℕ} {s t r : Reading} {m m₁ : Memory} {kind detail : ℕ} {p : Span} → t ≡ mark_here s
-    → Does text tokens d (emit kind detail p) t m tt r m₁ → Does text tokens d (emit_and_mark kind detail p) s m tt r m₁
+pub mark-emit : {p r : Parser} {kind detail : ℕ} {q : Span} → Reports kind detail q (mark_here p) r → Does (emit_and_mark kind detail q) p tt r
 unfolding eval
-mark-emit e g = record { is = λ w. rw e at (g.is w) }
+mark-emit g = record { is = λ w. g.is; kept = kept_then (record { text = refl; tokens = refl; nodes = refl; values = refl; reports = refl; levels = refl }) g.kept }
 
 -- A list searched from its i-th on.
 pub contains-next : (l : List ℕ) (i token : ℕ) (b : Bool) → i < length l → (token ≡ get_or l i 0 → ⊥) → contains (drop i l) token ≡ b → contains (drop (i + 1) l) token ≡ b
@@ -83,7 +95,6 @@ abbrev pub turn_if : Bool → Turn (Unit {0})
 turn_if true = again tt
 turn_if false = stop tt
 
-pub before-is : {text tokens : List ℕ} {d : ℕ} {r : Reading} {m : Memory} {x y : ℕ} → x ≡ token_start tokens (pred r.state.cursor.at) → y ≡ token_start tokens r.state.cursor.at
-    → Does text tokens d before r m (span x y) r m
+pub before-is : {p : Parser} {x y : ℕ} → x ≡ token_start p.tokens.now (pred p.state.cursor.at) → y ≡ token_start p.tokens.now p.state.cursor.at → Does before p (span x y) p
 unfolding eval
-before-is f g = record { is = λ w. rw (f, g) }
+before-is f g = record { is = λ w. rw (f, g); kept = same }

@@ -1,28 +1,27 @@
 -- Laws of passing and skipping tokens.
-use Rattle.std.specs.Prelude.{◌≡◌, refl, List, [], Bool, true, false, cond, ℕ, zero, suc, ◌-◌, ◌≤◌, ◌<◌, eqb, length, get_or}
+use Rattle.std.specs.Prelude.{◌≡◌, refl, List, [], true, false, ℕ, zero, suc, ◌-◌, ◌≤◌, ◌<◌, length, get_or}
 use Rattle.std.proofs.Common.{sym, ◌∙◌, ap, sub-one}
 use Rattle.std.proofs.Math.ListN.{get_or-eq_default}
 use Rattle.words.specs.Words.{token_end, token_word, pack, low}
 use Rattle.words.specs.Token
+use Rattle.words.specs.declared.error_token.ErrorToken.{ErrorToken}
+use Rattle.words.specs.ErrorToken.{error_number}
 use Rattle.words.specs.Token.{lex_error}
-use Rattle.words.specs.declared.token.LexError.{LexError}
-use Rattle.words.specs.declared.token.LexError.TheVariants.{Is, Nothing}
+use Rattle.std.specs.Prelude.{Some, None}
 use Rattle.words.specs.Report
 use Rattle.literals.specs.Spelling.{token_start, token_span, span, word_at}
 use Rattle.definition.specs.declared.Cursor.{Cursor}
 use Rattle.definition.specs.declared.State.{State}
-use Rattle.definition.specs.Prog.{Memory, memory, Out, done, refused, with_cursor, advanced, kind_at, passed, reported, is_marked}
+use Rattle.definition.specs.Prog.{Memory, Out, done, refused, with_cursor, advanced, kind_at, passed, reported, is_marked}
 use Rattle.definition.specs.Quiet.{word-inside}
-use Rattle.reading.specs.declared.Reading.{Reading}
-use Rattle.reading.specs.Does.{view, from}
+use Rattle.reading.specs.declared.parser.Parser.{Parser}
+use Rattle.reading.specs.Standing.{words, Kept}
+use Rattle.reading.specs.Does.{Steps, from, kept_then}
 use Rattle.reading.specs.Leaves.{Reports}
+use Rattle.words.specs.Refusal.{number}
 
-abbrev pub moved : Reading → Cursor → Reading
-moved r c = record { state = with_cursor c r.state; refusal = r.refusal; place = r.place }
-
--- A function that is lent no more than tokens and reports does this, whatever the text, the nodes and the values are.
-abbrev pub Whatever : (List ℕ → State → Memory → Out (Unit {0})) → Reading → List ℕ → Reading → List ℕ → Type 0
-Whatever does s reports r reports' = (text ns vs : List ℕ) → view tt r (memory ns vs reports') ≡ from s (memory ns vs reports) (does text)
+abbrev pub moved : Parser → Cursor → Parser
+moved p c = record p { state = with_cursor c p.state }
 
 pub end-inside : (tokens : List ℕ) (i : ℕ) → i < length tokens → token_end (get_or tokens i 0) ≡ token_end (word_at tokens i)
 end-inside tokens i h = ap token_end (word-inside tokens i h)
@@ -40,37 +39,54 @@ pub kind-any : (text tokens : List ℕ) (c : Cursor) → kind_at [] tokens c ≡
 unfolding kind_at
 kind-any text tokens c = refl
 
+pub kind-kept : {p r : Parser} (c : Cursor) {k : ℕ} → Kept p r → k ≡ kind_at [] p.tokens.now c → k ≡ kind_at [] r.tokens.now c
+kind-kept {p = p} {r = r} c e f =
+    let same_tokens : p.tokens.now ≡ r.tokens.now = cc e.tokens in
+    f ∙ ap (λ (x : List ℕ). kind_at [] x c) same_tokens
+
 module _ (text tokens : List ℕ) (s : State) (m : Memory) where
   abbrev t : State
   t = with_cursor (advanced s.cursor) s
 
-  pub passed-plain : lex_error (kind_at text tokens s.cursor) ≡ Nothing → passed text tokens s m ≡ done tt t m
+  pub passed-plain : lex_error (kind_at text tokens s.cursor) ≡ None → passed text tokens s m ≡ done tt t m
   unfolding passed
   passed-plain h = rw (h, passed)
 
-  pub passed-marked : (e : ℕ) → lex_error (kind_at text tokens s.cursor) ≡ Is e → is_marked s ≡ true → passed text tokens s m ≡ done tt t m
+  pub passed-marked : (e : ErrorToken) → lex_error (kind_at text tokens s.cursor) ≡ Some e → is_marked s ≡ true → passed text tokens s m ≡ done tt t m
   unfolding passed
   passed-marked e h g = rw (h, g, passed)
 
-  pub passed-told : (e : ℕ) → lex_error (kind_at text tokens s.cursor) ≡ Is e → is_marked s ≡ false
-      → passed text tokens s m ≡ reported Report.LexerError e (token_span tokens s.cursor.at) t m
+  pub passed-told : (e : ErrorToken) → lex_error (kind_at text tokens s.cursor) ≡ Some e → is_marked s ≡ false
+      → passed text tokens s m ≡ reported Report.LexerError (error_number e) (token_span tokens s.cursor.at) t m
   unfolding passed
   passed-told e h g = rw (h, g, passed)
 
+pub moved-kept : {p : Parser} {c : Cursor} → Kept p (moved p c)
+moved-kept = record { text = refl; tokens = refl; nodes = refl; values = refl; reports = refl; levels = refl }
+
 -- A token is passed: nothing more, or with its report.
-module _ (text tokens : List ℕ) (s : Reading) (m : Memory) (c : Cursor) (next : Reading) (k : ℕ) (l : LexError)
-    (ec : c ≡ advanced s.state.cursor) (en : next ≡ moved s c) (ek : k ≡ kind_at [] tokens s.state.cursor) (el : l ≡ lex_error k) where
-  known : lex_error (kind_at text tokens s.state.cursor) ≡ l
-  known = ap lex_error (sym (ek ∙ kind-any text tokens s.state.cursor)) ∙ sym el
+module _ (p : Parser) (c : Cursor) (k : ℕ) (ec : c ≡ advanced p.state.cursor) (ek : k ≡ kind_at [] p.tokens.now p.state.cursor) where
+  known : lex_error k ≡ lex_error (kind_at p.text.now p.tokens.now p.state.cursor)
+  known = ap lex_error (ek ∙ kind-any p.text.now p.tokens.now p.state.cursor)
 
-  pub advance-plain : l ≡ Nothing → view tt next m ≡ from s m (passed text tokens)
-  advance-plain h = rw (en, ec) (ap (λ (o : Out (Unit {0})). cond (eqb s.refusal 0) o (refused s.refusal s.place)) (sym (passed-plain text tokens s.state m (known ∙ h))))
+  -- What a parser that goes on does with a step's outcome.
+  onward : (o : Out (Unit {0})) → o ≡ passed p.text.now p.tokens.now p.state (words p)
+      → elim p.refused [ None ↦ o | Some r ↦ refused (number r.refusal) r.place ] ≡ from p (passed p.text.now p.tokens.now)
+  onward o e = ap (λ (x : Out (Unit {0})). elim p.refused [ None ↦ x | Some r ↦ refused (number r.refusal) r.place ]) e
 
-  pub advance-marked : (e : ℕ) (b : Bool) → l ≡ Is e → b ≡ is_marked s.state → b ≡ true → view tt next m ≡ from s m (passed text tokens)
-  advance-marked e b h g i = rw (en, ec) (ap (λ (o : Out (Unit {0})). cond (eqb s.refusal 0) o (refused s.refusal s.place)) (sym (passed-marked text tokens s.state m e (known ∙ h) (sym g ∙ i))))
+  pub advance-plain : lex_error k ≡ None → Steps passed p (moved p c)
+  advance-plain h =
+      record { is = rw ec (onward _ (sym (passed-plain p.text.now p.tokens.now p.state (words p) (sym known ∙ h)))); kept = moved-kept }
 
-  pub advance-told : (e x y : ℕ) (b : Bool) (r : Reading) (m' : Memory) → l ≡ Is e → b ≡ is_marked s.state → b ≡ false
-      → x ≡ token_start tokens s.state.cursor.at → y ≡ token_end (word_at tokens s.state.cursor.at)
-      → Reports Report.LexerError e (span x y) next m r m' → view tt r m' ≡ from s m (passed text tokens)
-  advance-told e x y b r m' h g i ex ey p =
-      (rw (en, ec, ex, ey) at p.is) ∙ (ap (λ (o : Out (Unit {0})). cond (eqb s.refusal 0) o (refused s.refusal s.place)) (sym (passed-told text tokens s.state m e (known ∙ h) (sym g ∙ i))))
+  pub advance-marked : (e : ErrorToken) → lex_error k ≡ Some e → is_marked p.state ≡ true → Steps passed p (moved p c)
+  advance-marked e h g =
+      record { is = rw ec (onward _ (sym (passed-marked p.text.now p.tokens.now p.state (words p) e (sym known ∙ h) g))); kept = moved-kept }
+
+  pub advance-told : (e : ErrorToken) (x y : ℕ) (p' : Parser) → lex_error k ≡ Some e → is_marked p.state ≡ false
+      → x ≡ token_start p.tokens.now p.state.cursor.at → y ≡ token_end (word_at p.tokens.now p.state.cursor.at)
+      → Reports Report.LexerError (error_number e) (span x y) (moved p c) p' → Steps passed p p'
+  advance-told e x y p' h g ex ey r =
+      record {
+        is = r.is ∙ onward _ (rw (ec, ex, ey) (sym (passed-told p.text.now p.tokens.now p.state (words p) e (sym known ∙ h) g)));
+        kept = kept_then moved-kept r.kept;
+      }

@@ -1,35 +1,37 @@
 -- Laws of skipping trivia: first what the cursor skips by itself, then an error token, and so on.
 use Rattle.std.specs.Prelude.{◌≡◌, Bool, true, false, cond, ◌||◌, eqb, ltb, leb, length}
 use Rattle.std.proofs.Math.Path.{refl, sym}
-use Rattle.std.proofs.Common.{◌∙◌, ap, arith, eq-eqb, ne_eqb, eqb-true, ltb-true, ltb-false, leb-true, leb-false}
+use Rattle.std.proofs.Common.{◌∙◌, ap, arith, ne_eqb, eqb-true, ltb-true, ltb-false, leb-true, leb-false}
 use mathlib.Core.List.{List, []}
 use Rattle.std.proofs.lemmas.Bool.{false≢true}
 use Prim.Native.Nat.{ℕ, zero, suc, ◌+◌, ◌-◌, ◌*◌, ◌≤◌, ◌<◌}
 use Rattle.words.specs.Token
-use Rattle.words.specs.Token.{is_trivia, lex_error}
-use Rattle.words.specs.declared.token.LexError.{LexError}
-use Rattle.words.specs.declared.token.LexError.TheVariants.{Is, Nothing}
+use Rattle.words.specs.Token.{is_trivia, lex_error, LexError}
+use Rattle.std.specs.Prelude.{Option, Some, None}
 use Rattle.words.specs.Words.{report_width}
 use Rattle.literals.specs.declared.Span.{Span}
 use Rattle.definition.specs.declared.Cursor.{Cursor}
 use Rattle.definition.specs.declared.State.{State}
 use Rattle.definition.specs.Prog.{Memory, Out, done, refused, bind, with_cursor, advanced, kind_at, passed, reported, is_marked, skipped, skip_trivia}
 use Rattle.definition.specs.Quiet.{is_quiet, quiet_end, quiet-yes, quiet-no, advanced-on, kind-over}
-use Rattle.reading.specs.declared.Reading.{Reading}
-use Rattle.reading.specs.Does.{view, from}
+use Rattle.words.specs.Refusal.{number}
+use Rattle.words.specs.declared.refusal.Refused.{Refused}
+use Rattle.reading.specs.declared.parser.Parser.{Parser}
+use Rattle.reading.specs.Standing.{is_refused, words, Kept}
+use Rattle.reading.specs.Does.{Steps, view, from, same, kept_then, standing, not_refused}
 use Rattle.reading.specs.Leaves.{reported-fits, reported-full}
-use Rattle.stream.specs.Skip.{moved, kind-any, passed-plain, passed-marked, passed-told, advance-plain}
+use Rattle.stream.specs.Skip.{moved, moved-kept, kind-any, passed-plain, passed-marked, passed-told, advance-plain}
 
 -- A quiet token is trivia and no error.
-quiet-known : (k : ℕ) → is_quiet k ≡ true → (is_trivia k ≡ true) × (lex_error k ≡ Nothing)
+quiet-known : (k : ℕ) → is_quiet k ≡ true → (is_trivia k ≡ true) × (lex_error k ≡ None)
 unfolding is_quiet is_trivia lex_error
 quiet-known k e = go (eqb k Token.Whitespace) (eqb k Token.LineComment) (eqb k Token.BlockComment) refl refl refl e
   where
-    at : (n : ℕ) → k ≡ n → (is_trivia n ≡ true) × (lex_error n ≡ Nothing) → (is_trivia k ≡ true) × (lex_error k ≡ Nothing)
+    at : (n : ℕ) → k ≡ n → (is_trivia n ≡ true) × (lex_error n ≡ None) → (is_trivia k ≡ true) × (lex_error k ≡ None)
     at n f h = rw f h
 
     go : (p q r : Bool) → eqb k Token.Whitespace ≡ p → eqb k Token.LineComment ≡ q → eqb k Token.BlockComment ≡ r → (p || (q || r)) ≡ true
-        → (is_trivia k ≡ true) × (lex_error k ≡ Nothing)
+        → (is_trivia k ≡ true) × (lex_error k ≡ None)
     go true q r ep eq er e = at Token.Whitespace (eqb-true k Token.Whitespace ep) (refl, refl)
     go false true r ep eq er e = at Token.LineComment (eqb-true k Token.LineComment eq) (refl, refl)
     go false false true ep eq er e = at Token.BlockComment (eqb-true k Token.BlockComment er) (refl, refl)
@@ -102,9 +104,9 @@ module _ (text tokens : List ℕ) where
   passed-moved s m = go (lex_error (kind_at text tokens s.cursor)) refl (is_marked s) refl
     where
       go : (l : LexError) → lex_error (kind_at text tokens s.cursor) ≡ l → (b : Bool) → is_marked s ≡ b → Moved (advanced s.cursor) (passed text tokens s m)
-      go Nothing e b f = rw (passed-plain text tokens s m e) (on _ _ refl)
-      go (Is x) e true f = rw (passed-marked text tokens s m x e f) (on _ _ refl)
-      go (Is x) e false f = rw (passed-told text tokens s m x e f) (reported-moved _ _ _ _ m)
+      go None e b f = rw (passed-plain text tokens s m e) (on _ _ refl)
+      go (Some x) e true f = rw (passed-marked text tokens s m x e f) (on _ _ refl)
+      go (Some x) e false f = rw (passed-told text tokens s m x e f) (reported-moved _ _ _ _ m)
 
   -- An error token that is trivia: it is passed, and then trivia is skipped on.
   trivia-skip : (s : State) (m : Memory) → is_trivia (kind_at text tokens s.cursor) ≡ true
@@ -128,42 +130,14 @@ module _ (text tokens : List ℕ) where
       go o (on t n f) = ap (λ (x : Cursor). skipped text tokens (x.end - x.at) t n) (advanced-on c inside ∙ sym f)
       go o (off number place) = refl
 
--- The loop of `skip_trivia`: what is left to do at `r` with `m` comes to `o`, what the whole comes to.
-module _ (text tokens : List ℕ) (r : Reading) (m : Memory) (o : Out (Unit {0})) where
-  abbrev skip : State → Memory → Out (Unit {0})
-  skip = skip_trivia text tokens
-
-  pub skip-refused : (r.refusal ≡ 0 → ⊥) → from r m skip ≡ o → view tt r m ≡ o
-  skip-refused h p = rw (ne_eqb r.refusal 0 h) (rw (ne_eqb r.refusal 0 h) at p)
-
-  module _ (q : Cursor) (r₁ : Reading) (k : ℕ) (b : Bool) (h : r.refusal ≡ 0)
-      (eq : q ≡ quiet_end tokens (r.state.cursor.end - r.state.cursor.at) r.state.cursor) (er : r₁ ≡ moved r q)
-      (ek : k ≡ kind_at [] tokens q) (eb : b ≡ is_trivia k) (p : from r m skip ≡ o) where
-    going : skip r₁.state m ≡ o
-    going = rw (er, eq) (sym (quiet-skip text tokens _ r.state m refl) ∙ (rw (eq-eqb r.refusal 0 h) at p))
-
-    kind-is : is_trivia (kind_at text tokens r₁.state.cursor) ≡ b
-    kind-is = rw er (ap is_trivia (sym (ek ∙ kind-any text tokens q)) ∙ sym eb)
-
-    running : r₁.refusal ≡ 0
-    running = rw er h
-
-    pub skip_stop : b ≡ false → view tt r₁ m ≡ o
-    skip_stop f = rw (eq-eqb r₁.refusal 0 running) (sym (skip-no text tokens _ r₁.state m (kind-is ∙ f)) ∙ going)
-
-    pub skip-next : (r₂ : Reading) (m₂ : Memory) → b ≡ true → view tt r₂ m₂ ≡ from r₁ m (passed text tokens) → from r₂ m₂ skip ≡ o
-    skip-next r₂ m₂ f e =
-        let e' : view tt r₂ m₂ ≡ passed text tokens r₁.state m = rw (eq-eqb r₁.refusal 0 running) at e in
-        go (eqb r₂.refusal 0) e' ∙ (sym (trivia-skip text tokens r₁.state m (kind-is ∙ f)) ∙ going)
-      where
-        go : (t : Bool) → cond t (done tt r₂.state m₂) (refused r₂.refusal r₂.place) ≡ passed text tokens r₁.state m
-            → cond t (skip r₂.state m₂) (refused r₂.refusal r₂.place) ≡ bind (passed text tokens r₁.state m) (λ _ t n. skip t n)
-        go true z = ap (λ (x : Out (Unit {0})). bind x (λ _ t n. skip t n)) z
-        go false z = ap (λ (x : Out (Unit {0})). bind x (λ _ t n. skip t n)) z
+-- What is left to skip at `r` comes to what the whole comes to, from `p₀` on.
+pub record Left (p₀ r : Parser) : Type 0 where
+  pub is : from r (skip_trivia r.text.now r.tokens.now) ≡ from p₀ (skip_trivia p₀.text.now p₀.tokens.now)
+  pub kept : Kept p₀ r
 
 -- How much is left: nothing where reading was refused.
-abbrev pub left : Reading → ℕ
-left r = cond (eqb r.refusal 0) (suc (r.state.cursor.end - r.state.cursor.at)) 0
+abbrev pub left : Parser → ℕ
+left r = elim r.refused [ None ↦ suc (r.state.cursor.end - r.state.cursor.at) | Some x ↦ 0 ]
 
 advanced-end : (c : Cursor) → (advanced c).end ≡ c.end
 unfolding advanced
@@ -181,35 +155,81 @@ quiet-end tokens (suc n) c = go (is_quiet (kind_at [] tokens c)) refl (quiet-end
     go true e h = ap (λ (x : Cursor). x.end) (quiet-yes tokens n c e) ∙ (h ∙ advanced-end c)
     go false e h = ap (λ (x : Cursor). x.end) (quiet-no tokens n c e)
 
-module _ (text tokens : List ℕ) (r : Reading) (m : Memory) (q : Cursor) (r₁ r₂ : Reading) (m₂ : Memory) (k : ℕ) (b : Bool) (h : r.refusal ≡ 0)
-    (eq : q ≡ quiet_end tokens (r.state.cursor.end - r.state.cursor.at) r.state.cursor) (far : r.state.cursor.at ≤ q.at) (er : r₁ ≡ moved r q)
-    (ek : k ≡ kind_at [] tokens q) (eb : b ≡ is_trivia k) (f : b ≡ true) (e : view tt r₂ m₂ ≡ from r₁ m (passed text tokens)) where
-  pub skip-falls : left r₂ < left r
-  skip-falls = rw (eq-eqb r.refusal 0 h) (go (eqb r₂.refusal 0) (passed text tokens r₁.state m) (passed-moved text tokens r₁.state m) e')
-    where
-      e' : view tt r₂ m₂ ≡ passed text tokens r₁.state m
-      e' = rw (eq-eqb r₁.refusal 0 (rw er h)) at e
+pub skips-first : {p : Parser} → Left p p
+skips-first = record { is = refl; kept = same }
 
-      inside : q.at < q.end
-      inside = trivia-inside text tokens q (ap is_trivia (sym (ek ∙ kind-any text tokens q)) ∙ (sym eb ∙ f))
+pub skips-refused : {p₀ r : Parser} → Left p₀ r → is_refused r ≡ true → Steps skip_trivia p₀ r
+skips-refused {r = r} t h = record { is = standing tt r (skip_trivia r.text.now r.tokens.now) h ∙ t.is; kept = t.kept }
 
-      end' : q.end ≡ r.state.cursor.end
-      end' = ap (λ (x : Cursor). x.end) eq ∙ quiet-end tokens _ _
+module _ {p₀ r : Parser} (t : Left p₀ r) (h : is_refused r ≡ false) (q : Cursor) (eq : q ≡ quiet_end r.tokens.now (r.state.cursor.end - r.state.cursor.at) r.state.cursor)
+    (k : ℕ) (ek : k ≡ kind_at [] r.tokens.now q) (b : Bool) (eb : b ≡ is_trivia k) where
+  abbrev text : List ℕ
+  text = r.text.now
 
-      next : r₁.state.cursor ≡ q
-      next = ap (λ (x : Reading). x.state.cursor) er
+  abbrev tokens : List ℕ
+  tokens = r.tokens.now
 
-      go : (t : Bool) (o : Out (Unit {0})) → Moved text tokens (advanced r₁.state.cursor) o → cond t (done tt r₂.state m₂) (refused r₂.refusal r₂.place) ≡ o
-          → cond t (suc (r₂.state.cursor.end - r₂.state.cursor.at)) 0 < suc (r.state.cursor.end - r.state.cursor.at)
-      go false o v z = omega arith
-      go true o (off number place) z = absurd (let w : ◌≡◌ {A = ℕ} 0 1 = cc in omega arith)
-      go true o (on t n g) z =
-          let s : r₂.state ≡ t = cc in
-          let c : r₂.state.cursor ≡ record { at = q.at + 1; end = q.end } = ap (λ (x : State). x.cursor) s ∙ (g ∙ (ap advanced next ∙ sym (advanced-on q inside))) in
-          rw c (omega (arith, inside, end', far))
+  abbrev whole : Out (Unit {0})
+  whole = from p₀ (skip_trivia p₀.text.now p₀.tokens.now)
+
+  abbrev s : State
+  s = (moved r q).state
+
+  going : skip_trivia text tokens s (words r) ≡ whole
+  going =
+      let e : skip_trivia text tokens r.state (words r) ≡ whole = rw (not_refused r h) at t.is in
+      rw eq (sym (quiet-skip text tokens _ r.state (words r) refl) ∙ e)
+
+  kind-is : is_trivia (kind_at text tokens q) ≡ b
+  kind-is = ap is_trivia (sym (ek ∙ kind-any text tokens q)) ∙ sym eb
+
+  pub skips-stop : b ≡ false → Steps skip_trivia p₀ (moved r q)
+  skips-stop f =
+      record {
+        is = rw (not_refused r h) (sym (skip-no text tokens _ s (words r) (kind-is ∙ f)) ∙ going);
+        kept = kept_then t.kept moved-kept;
+      }
+
+  module _ {r₂ : Parser} (f : b ≡ true) (g : Steps passed (moved r q) r₂) where
+    passes : view tt r₂ ≡ passed text tokens s (words r)
+    passes = rw (not_refused r h) at g.is
+
+    goes-on : from r₂ (skip_trivia text tokens) ≡ whole
+    goes-on = go r₂.refused passes ∙ (sym (trivia-skip text tokens s (words r) (kind-is ∙ f)) ∙ going)
+      where
+        go : (o : Option Refused) → elim o [ None ↦ done tt r₂.state (words r₂) | Some x ↦ refused (number x.refusal) x.place ] ≡ passed text tokens s (words r)
+            → elim o [ None ↦ skip_trivia text tokens r₂.state (words r₂) | Some x ↦ refused (number x.refusal) x.place ]
+            ≡ bind (passed text tokens s (words r)) (λ _ u n. skip_trivia text tokens u n)
+        go None z = ap (λ (x : Out (Unit {0})). bind x (λ _ u n. skip_trivia text tokens u n)) z
+        go (Some x) z = ap (λ (x : Out (Unit {0})). bind x (λ _ u n. skip_trivia text tokens u n)) z
+
+    pub skips-next : Left p₀ r₂
+    skips-next = record { is = again text r₂.text.now tokens r₂.tokens.now (cc g.kept.text) (cc g.kept.tokens) goes-on; kept = kept_then t.kept (kept_then moved-kept g.kept) }
+      where
+        again : (a a' b b' : List ℕ) → a' ≡ a → b' ≡ b → from r₂ (skip_trivia a b) ≡ whole → from r₂ (skip_trivia a' b') ≡ whole
+        again a a' b b' x y z = rw (x, y) z
+
+    pub skips-falls : r.state.cursor.at ≤ q.at → left r₂ < left r
+    skips-falls far = rw (not_refused r h) (go r₂.refused (passed text tokens s (words r)) (passed-moved text tokens s (words r)) passes)
+      where
+        inside : q.at < q.end
+        inside = trivia-inside text tokens q (kind-is ∙ f)
+
+        end' : q.end ≡ r.state.cursor.end
+        end' = ap (λ (x : Cursor). x.end) eq ∙ quiet-end tokens _ _
+
+        go : (o : Option Refused) (u : Out (Unit {0})) → Moved text tokens (advanced q) u
+            → elim o [ None ↦ done tt r₂.state (words r₂) | Some x ↦ refused (number x.refusal) x.place ] ≡ u
+            → elim o [ None ↦ suc (r₂.state.cursor.end - r₂.state.cursor.at) | Some x ↦ 0 ] < suc (r.state.cursor.end - r.state.cursor.at)
+        go (Some x) u v z = omega arith
+        go None u (off number place) z = absurd cc
+        go None u (on t n e) z =
+            let same_state : r₂.state ≡ t = cc in
+            let c : r₂.state.cursor ≡ record { at = q.at + 1; end = q.end } = ap (λ (x : State). x.cursor) same_state ∙ (e ∙ sym (advanced-on q inside)) in
+            rw c (omega (arith, inside, end', far))
 
 -- The kinds below that of blanks are neither trivia nor errors.
-small_plain : (k : ℕ) → k < Token.Whitespace → (is_trivia k ≡ false) × (lex_error k ≡ Nothing)
+small_plain : (k : ℕ) → k < Token.Whitespace → (is_trivia k ≡ false) × (lex_error k ≡ None)
 unfolding is_trivia lex_error
 small_plain k h =
     let other : (n : ℕ) → Token.Whitespace ≤ n → eqb k n ≡ false = λ n l. ne_eqb k n (λ e. omega (arith, e, h, l)) in
@@ -226,39 +246,48 @@ small_plain k h =
     ) (refl, refl)
 
 -- Where the token at the cursor is of such a kind, nothing is skipped, and it is passed with no report.
-module _ (text tokens : List ℕ) (s : Reading) (m : Memory) (k : ℕ) (ek : k ≡ kind_at [] tokens s.state.cursor) (h : k < Token.Whitespace) where
-  pub stays_here : view tt s m ≡ from s m (skip_trivia text tokens)
+module _ (p : Parser) (k : ℕ) (ek : k ≡ kind_at [] p.tokens.now p.state.cursor) (h : k < Token.Whitespace) where
+  pub stays_here : Steps skip_trivia p p
   stays_here =
-      ap (λ (o : Out (Unit {0})). cond (eqb s.refusal 0) o (refused s.refusal s.place))
-      (sym (skip-no text tokens (s.state.cursor.end - s.state.cursor.at) s.state m (ap is_trivia (sym (ek ∙ kind-any text tokens s.state.cursor)) ∙ (small_plain k h).0)))
+      record {
+        is =
+            ap (λ (o : Out (Unit {0})). elim p.refused [ None ↦ o | Some r ↦ refused (number r.refusal) r.place ])
+            (sym (skip-no p.text.now p.tokens.now (p.state.cursor.end - p.state.cursor.at) p.state (words p)
+            (ap is_trivia (sym (ek ∙ kind-any p.text.now p.tokens.now p.state.cursor)) ∙ (small_plain k h).0)));
+        kept = same;
+      }
 
-  pub passes-here : (c : Cursor) (next : Reading) → c ≡ advanced s.state.cursor → next ≡ moved s c → view tt next m ≡ from s m (passed text tokens)
-  passes-here c next ec en = advance-plain text tokens s m c next k (lex_error k) ec en ek refl (small_plain k h).1
+  pub passes-here : (c : Cursor) → c ≡ advanced p.state.cursor → Steps passed p (moved p c)
+  passes-here c ec = advance-plain p c k ec ek (small_plain k h).1
 
 -- Where a blank stands at the cursor and such a token behind it, the blank is what is skipped.
-module _ (text tokens : List ℕ) (s : Reading) (m : Memory) (c : Cursor) (next : Reading) (k : ℕ) (blank : kind_at [] tokens s.state.cursor ≡ Token.Whitespace)
-    (ec : c ≡ advanced s.state.cursor) (en : next ≡ moved s c) (ek : k ≡ kind_at [] tokens c) (h : k < Token.Whitespace) where
+module _ (p : Parser) (c : Cursor) (k : ℕ) (blank : kind_at [] p.tokens.now p.state.cursor ≡ Token.Whitespace)
+    (ec : c ≡ advanced p.state.cursor) (ek : k ≡ kind_at [] p.tokens.now c) (h : k < Token.Whitespace) where
   abbrev here : Cursor
-  here = s.state.cursor
+  here = p.state.cursor
 
   abbrev past : State
-  past = with_cursor (advanced here) s.state
+  past = with_cursor (advanced here) p.state
 
-  known : (is_trivia (kind_at text tokens here) ≡ true) × (lex_error (kind_at text tokens here) ≡ Nothing)
+  known : (is_trivia (kind_at p.text.now p.tokens.now here) ≡ true) × (lex_error (kind_at p.text.now p.tokens.now here) ≡ None)
   unfolding is_trivia lex_error
-  known = let e : kind_at text tokens here ≡ Token.Whitespace = sym (kind-any text tokens here) ∙ blank in rw e (refl, refl)
+  known = let e : kind_at p.text.now p.tokens.now here ≡ Token.Whitespace = sym (kind-any p.text.now p.tokens.now here) ∙ blank in rw e (refl, refl)
 
-  behind : is_trivia (kind_at text tokens (advanced here)) ≡ false
-  behind = ap is_trivia (sym (ek ∙ (kind-any text tokens c ∙ ap (kind_at text tokens) ec))) ∙ (small_plain k h).0
+  behind : is_trivia (kind_at p.text.now p.tokens.now (advanced here)) ≡ false
+  behind = ap is_trivia (sym (ek ∙ (kind-any p.text.now p.tokens.now c ∙ ap (kind_at p.text.now p.tokens.now) ec))) ∙ (small_plain k h).0
 
-  blank-skipped : (left : ℕ) → here.end - here.at ≡ left → skipped text tokens left s.state m ≡ done tt past m
-  blank-skipped zero e = let l = trivia-inside text tokens here known.0 in absurd (omega arith)
+  blank-skipped : (left : ℕ) → here.end - here.at ≡ left → skipped p.text.now p.tokens.now left p.state (words p) ≡ done tt past (words p)
+  blank-skipped zero e = let l = trivia-inside p.text.now p.tokens.now here known.0 in absurd (omega arith)
   blank-skipped (suc left) e =
-      skip-yes text tokens left s.state m known.0
-      ∙ (ap (λ (o : Out (Unit {0})). bind o (λ _ u n. skipped text tokens left u n)) (passed-plain text tokens s.state m known.1)
-      ∙ skip-no text tokens left past m behind)
+      skip-yes p.text.now p.tokens.now left p.state (words p) known.0
+      ∙ (ap (λ (o : Out (Unit {0})). bind o (λ _ u n. skipped p.text.now p.tokens.now left u n)) (passed-plain p.text.now p.tokens.now p.state (words p) known.1)
+      ∙ skip-no p.text.now p.tokens.now left past (words p) behind)
 
-  pub skips-blank : view tt next m ≡ from s m (skip_trivia text tokens)
+  pub skips-blank : Steps skip_trivia p (moved p c)
   skips-blank =
-      rw (en, ec)
-      (ap (λ (o : Out (Unit {0})). cond (eqb s.refusal 0) o (refused s.refusal s.place)) (sym (blank-skipped (here.end - here.at) refl)))
+      record {
+        is =
+            rw ec
+            (ap (λ (o : Out (Unit {0})). elim p.refused [ None ↦ o | Some r ↦ refused (number r.refusal) r.place ]) (sym (blank-skipped (here.end - here.at) refl)));
+        kept = moved-kept;
+      }

@@ -1,38 +1,15 @@
 // Tokens as the parser sees them: from `advance` to `expect` of parser/mod.rs, but for what is in crate recovery.
 #![tactic(auto)]
 
-ghost use Rattle.std.specs.Prelude.{◌≡◌, ◌||◌, List, [], ℕ, pred};
-ghost use Rattle.definition.specs.Prog.{kind_at, memory, passed, skip_trivia, is_marked, peek, pass, emit_and_mark};
+ghost use Rattle.std.specs.Prelude.{◌≡◌, [], pred};
+ghost use Rattle.definition.specs.Prog.{kind_at, passed, skip_trivia, is_marked, peek, pass, emit_and_mark};
 ghost use Rattle.definition.specs.Tokens.{check, eat, eof, emit_unexpected, expect, contains};
-ghost use Rattle.reading.specs.Does.{Does, turns_of};
-ghost use Rattle.stream.specs.Skip.{moved, Whatever};
-ghost use Rattle.stream.specs.Commands.{mark_here};
+ghost use Rattle.reading.specs.Does.{Does, Steps, turns_of};
 ghost use Rattle.words.specs.Words.{token_end};
 ghost use Rattle.literals.specs.Spelling.{span, token_start, word_at};
 
-use definition::{Cursor, State};
-use reading::{Got, Reading, Told, report};
+use reading::{Parser, report};
 use words::token;
-use words::token::LexError;
-
-// The same with another cursor.
-fn move_to(s: Reading, cursor: Cursor) -> Reading
-    ensures { result ≡ moved s cursor }
-{
-    let state = s.state;
-    let next = State {
-        cursor,
-        mark: state.mark,
-        nodes: state.nodes,
-        values: state.values,
-        reports: state.reports,
-    };
-    Reading {
-        state: next,
-        refusal: s.refusal,
-        place: s.place,
-    }
-}
 
 // Where a token ends; 0 past the words.
 pub fn token_end(tokens: &[u32], i: u32) -> u32
@@ -66,320 +43,176 @@ pub fn before_start(tokens: &[u32], i: u32) -> u32
 }
 
 // Whether the mark is at the cursor's token: `at_last_unexpected`.
-pub fn is_marked(s: Reading) -> bool
-    ensures { result ≡ is_marked s.state }
+pub fn is_marked(p: &Parser) -> bool
+    ensures { result ≡ is_marked p.now.state }
 {
-    let state = s.state;
-    let cursor = state.cursor;
-    state.mark == (cursor.at as usize) + 1
+    p.state.mark == (p.state.cursor.at as usize) + 1
 }
 
 // `advance`, where trivia was skipped before: the token at the cursor is passed, and reported where it is an error and
-// not marked. This and what follows up to `pass_behind` is lent no more than it needs: the fewer arguments, the sooner it is compiled
-// into its callers.
-fn advance(s: Reading, tokens: &[u32], reports: &mut [u32]) -> Reading
-    ensures { Whatever (λ (text : List ℕ). passed text tokens.now) s reports.old result reports.new }
+// not marked.
+fn advance(p: &mut Parser)
+    ensures { Steps passed p.old p.new }
 {
-    let state = s.state;
-    let cursor = state.cursor;
-    let next = move_to(s, cursor.advance());
-    match token::lex_error(cursor.peek(tokens)) {
-        LexError::Nothing => next,
-        LexError::Is(error) => {
-            if is_marked(s) {
-                return next;
-            }
-            let at = cursor.at;
-            report::tell(
-                next,
-                reports,
-                words::report::LEXER_ERROR,
-                error,
-                token_start(tokens, at),
-                token_end(tokens, at),
-            )
-        }
+    let cursor = p.state.cursor;
+    let marked = is_marked(p);
+    p.state.cursor = cursor.advance();
+    let Some(error) = token::lex_error(cursor.peek(p.tokens)) else {
+        return;
+    };
+    if marked {
+        return;
     }
+    report::emit(
+        p,
+        words::report::LEXER_ERROR,
+        error.number(),
+        token_start(p.tokens, cursor.at),
+        token_end(p.tokens, cursor.at),
+    );
 }
 
 // `skip_trivia`. The cursor passes blanks and comments by itself; error tokens are passed one by one, each with its report.
-fn skip_trivia(s: Reading, tokens: &[u32], reports: &mut [u32]) -> Reading
-    ensures { Whatever (λ (text : List ℕ). skip_trivia text tokens.now) s reports.old result reports.new }
+fn skip_trivia(p: &mut Parser)
+    ensures { Steps skip_trivia p.old p.new }
 {
-    let mut r = s;
-    while r.refusal == 0 {
-        let state = r.state;
-        let cursor = state.cursor;
-        let quiet = cursor.skip_trivia(tokens);
-        r = move_to(r, quiet);
-        if token::is_trivia(quiet.peek(tokens)) {
-            r = advance(r, tokens, reports);
-        } else {
-            return r;
+    while !p.is_refused() {
+        p.state.cursor = p.state.cursor.skip_trivia(p.tokens);
+        if !token::is_trivia(p.state.cursor.peek(p.tokens)) {
+            return;
         }
+        advance(p);
     }
-    r
 }
 
 // The kind of the next token that is no trivia, which is skipped.
-fn look_far(s: Reading, tokens: &[u32], reports: &mut [u32]) -> Got
-    ensures { (result.it ≡ kind_at [] tokens.now result.at.state.cursor) × Whatever (λ (text : List ℕ). skip_trivia text tokens.now) s reports.old result.at reports.new }
+fn look_far(p: &mut Parser) -> u32
+    ensures { (result ≡ kind_at [] p.old.tokens.now p.new.state.cursor) × Steps skip_trivia p.old p.new }
 {
-    let at = skip_trivia(s, tokens, reports);
-    let state = at.state;
-    let cursor = state.cursor;
-    Got {
-        it: cursor.peek(tokens),
-        at,
-    }
+    skip_trivia(p);
+    p.state.cursor.peek(p.tokens)
 }
 
 // The same. Mostly one blank stands before it.
-fn look_behind(s: Reading, tokens: &[u32], reports: &mut [u32]) -> Got
-    ensures { (result.it ≡ kind_at [] tokens.now result.at.state.cursor) × Whatever (λ (text : List ℕ). skip_trivia text tokens.now) s reports.old result.at reports.new }
+fn look_behind(p: &mut Parser) -> u32
+    ensures { (result ≡ kind_at [] p.old.tokens.now p.new.state.cursor) × Steps skip_trivia p.old p.new }
 {
-    let state = s.state;
-    let cursor = state.cursor;
-    if cursor.peek(tokens) == token::WHITESPACE {
-        let next = cursor.advance();
-        let kind = next.peek(tokens);
+    if p.state.cursor.peek(p.tokens) == token::WHITESPACE {
+        let next = p.state.cursor.advance();
+        let kind = next.peek(p.tokens);
         if kind < token::WHITESPACE {
-            let at = move_to(s, next);
-            return Got { it: kind, at };
+            p.state.cursor = next;
+            return kind;
         }
     }
-    look_far(s, tokens, reports)
+    look_far(p)
 }
 
 // The same. Often the token at the cursor is no trivia, and there is no more to do; that alone is compiled into the callers.
-fn look(s: Reading, tokens: &[u32], reports: &mut [u32]) -> Got
-    ensures { (result.it ≡ kind_at [] tokens.now result.at.state.cursor) × Whatever (λ (text : List ℕ). skip_trivia text tokens.now) s reports.old result.at reports.new }
+fn look(p: &mut Parser) -> u32
+    ensures { (result ≡ kind_at [] p.old.tokens.now p.new.state.cursor) × Steps skip_trivia p.old p.new }
 {
-    let state = s.state;
-    let cursor = state.cursor;
-    let kind = cursor.peek(tokens);
+    let kind = p.state.cursor.peek(p.tokens);
     if kind < token::WHITESPACE {
-        return Got { it: kind, at: s };
+        return kind;
     }
-    look_behind(s, tokens, reports)
+    look_behind(p)
 }
 
 // The next token that is no trivia passed.
-fn pass_behind(s: Reading, tokens: &[u32], reports: &mut [u32]) -> Reading
-    ensures { (text ns vs : List ℕ) (d : ℕ) → Does text tokens.now d pass s (memory ns vs reports.old) tt result (memory ns vs reports.new) }
+fn pass_behind(p: &mut Parser)
+    ensures { Does pass p.old tt p.new }
 {
-    let found = look_behind(s, tokens, reports);
-    advance(found.at, tokens, reports)
+    look_behind(p);
+    advance(p);
 }
 
 // The kind of the next token that is no trivia.
-pub fn peek(
-    d: u32,
-    s: Reading,
-    text: &[u8],
-    tokens: &[u32],
-    nodes: &mut [u32],
-    values: &mut [u32],
-    reports: &mut [u32],
-) -> Got
-    ensures { Does text.now tokens.now d peek s (memory nodes.old values.old reports.old) result.it result.at (memory nodes.new values.new reports.new) }
+pub fn peek(p: &mut Parser) -> u32
+    ensures { Does peek p.old result p.new }
 {
-    look(s, tokens, reports)
+    look(p)
 }
 
 // That token passed.
-pub fn pass(
-    d: u32,
-    s: Reading,
-    text: &[u8],
-    tokens: &[u32],
-    nodes: &mut [u32],
-    values: &mut [u32],
-    reports: &mut [u32],
-) -> Reading
-    ensures { Does text.now tokens.now d pass s (memory nodes.old values.old reports.old) tt result (memory nodes.new values.new reports.new) }
+pub fn pass(p: &mut Parser)
+    ensures { Does pass p.old tt p.new }
 {
-    let state = s.state;
-    let cursor = state.cursor;
-    if cursor.peek(tokens) < token::WHITESPACE {
-        return move_to(s, cursor.advance());
+    if p.state.cursor.peek(p.tokens) < token::WHITESPACE {
+        p.state.cursor = p.state.cursor.advance();
+        return;
     }
-    pass_behind(s, tokens, reports)
+    pass_behind(p);
 }
 
-pub fn check(
-    d: u32,
-    s: Reading,
-    text: &[u8],
-    tokens: &[u32],
-    nodes: &mut [u32],
-    values: &mut [u32],
-    reports: &mut [u32],
-    token: u32,
-) -> Told
-    ensures { Does text.now tokens.now d (check token) s (memory nodes.old values.old reports.old) result.is result.at (memory nodes.new values.new reports.new) }
+pub fn check(p: &mut Parser, token: u32) -> bool
+    ensures { Does (check token) p.old result p.new }
 {
-    let found = peek(d, s, text, tokens, nodes, values, reports);
-    let at = found.at;
-    Told {
-        is: found.it == token,
-        at,
-    }
+    peek(p) == token
 }
 
-pub fn eat(
-    d: u32,
-    s: Reading,
-    text: &[u8],
-    tokens: &[u32],
-    nodes: &mut [u32],
-    values: &mut [u32],
-    reports: &mut [u32],
-    token: u32,
-) -> Told
-    ensures { Does text.now tokens.now d (eat token) s (memory nodes.old values.old reports.old) result.is result.at (memory nodes.new values.new reports.new) }
+pub fn eat(p: &mut Parser, token: u32) -> bool
+    ensures { Does (eat token) p.old result p.new }
 {
-    let found = look(s, tokens, reports);
-    let is = found.it == token;
-    let mut at = found.at;
-    if is {
-        if token < token::WHITESPACE {
-            let state = at.state;
-            let cursor = state.cursor;
-            at = move_to(at, cursor.advance());
-        } else {
-            at = pass_behind(at, tokens, reports);
-        }
+    let found = look(p);
+    if found != token {
+        return false;
     }
-    Told { is, at }
+    if token < token::WHITESPACE {
+        p.state.cursor = p.state.cursor.advance();
+    } else {
+        pass_behind(p);
+    }
+    true
 }
 
-pub fn eof(
-    d: u32,
-    s: Reading,
-    text: &[u8],
-    tokens: &[u32],
-    nodes: &mut [u32],
-    values: &mut [u32],
-    reports: &mut [u32],
-) -> Told
-    ensures { Does text.now tokens.now d eof s (memory nodes.old values.old reports.old) result.is result.at (memory nodes.new values.new reports.new) }
+pub fn eof(p: &mut Parser) -> bool
+    ensures { Does eof p.old result p.new }
 {
-    check(d, s, text, tokens, nodes, values, reports, token::EOF)
-}
-
-// The mark put at the cursor's token.
-fn mark(s: Reading) -> Reading
-    ensures { result ≡ mark_here s }
-{
-    let state = s.state;
-    let cursor = state.cursor;
-    let next = State {
-        cursor,
-        mark: (cursor.at as usize) + 1,
-        nodes: state.nodes,
-        values: state.values,
-        reports: state.reports,
-    };
-    Reading {
-        state: next,
-        refusal: s.refusal,
-        place: s.place,
-    }
+    check(p, token::EOF)
 }
 
 // A report on a part of the text, which puts the mark at the cursor's token.
-pub fn emit_and_mark(
-    d: u32,
-    s: Reading,
-    text: &[u8],
-    tokens: &[u32],
-    nodes: &mut [u32],
-    values: &mut [u32],
-    reports: &mut [u32],
-    kind: u32,
-    detail: u32,
-    start: u32,
-    end: u32,
-) -> Reading
-    ensures { Does text.now tokens.now d (emit_and_mark kind detail (span start end)) s (memory nodes.old values.old reports.old) tt (result) (memory nodes.new values.new reports.new) }
+pub fn emit_and_mark(p: &mut Parser, kind: u32, detail: u32, start: u32, end: u32)
+    ensures { Does (emit_and_mark kind detail (span start end)) p.old tt p.new }
 {
-    let marked = mark(s);
-    report::emit(
-        d, marked, text, tokens, nodes, values, reports, kind, detail, start, end,
-    )
+    p.state.mark = (p.state.cursor.at as usize) + 1;
+    report::emit(p, kind, detail, start, end);
 }
 
 // No second unexpected-token report is made at one token.
-pub fn emit_unexpected(
-    d: u32,
-    s: Reading,
-    text: &[u8],
-    tokens: &[u32],
-    nodes: &mut [u32],
-    values: &mut [u32],
-    reports: &mut [u32],
-) -> Reading
-    ensures { Does text.now tokens.now d emit_unexpected s (memory nodes.old values.old reports.old) tt (result) (memory nodes.new values.new reports.new) }
+pub fn emit_unexpected(p: &mut Parser)
+    ensures { Does emit_unexpected p.old tt p.new }
 {
-    if is_marked(s) {
-        return s;
+    if is_marked(p) {
+        return;
     }
-    let found = peek(d, s, text, tokens, nodes, values, reports);
-    let kind = found.it;
-    let at = found.at;
-    let state = at.state;
-    let cursor = state.cursor;
-    let i = cursor.at;
+    let found = peek(p);
+    let at = p.state.cursor.at;
     emit_and_mark(
-        d,
-        at,
-        text,
-        tokens,
-        nodes,
-        values,
-        reports,
+        p,
         words::report::UNEXPECTED,
-        kind,
-        token_start(tokens, i),
-        token_end(tokens, i),
-    )
+        found,
+        token_start(p.tokens, at),
+        token_end(p.tokens, at),
+    );
 }
 
-pub fn expect(
-    d: u32,
-    s: Reading,
-    text: &[u8],
-    tokens: &[u32],
-    nodes: &mut [u32],
-    values: &mut [u32],
-    reports: &mut [u32],
-    token: u32,
-) -> Told
-    ensures { Does text.now tokens.now d (expect token) s (memory nodes.old values.old reports.old) result.is result.at (memory nodes.new values.new reports.new) }
+pub fn expect(p: &mut Parser, token: u32) -> bool
+    ensures { Does (expect token) p.old result p.new }
 {
-    let eaten = eat(d, s, text, tokens, nodes, values, reports, token);
-    let at = eaten.at;
-    let is = eaten.is;
-    if is {
-        return Told { is, at };
+    let eaten = eat(p, token);
+    if !eaten {
+        emit_unexpected(p);
     }
-    let told = emit_unexpected(d, at, text, tokens, nodes, values, reports);
-    Told { is, at: told }
+    eaten
 }
 
 // Whether a token is one of a list.
 pub fn contains(list: &[u32], token: u32) -> bool
     ensures { result ≡ contains list.now token }
 {
-    let mut i = 0;
-    while i < list.len() {
-        if token == list[i] {
-            return true;
-        }
-        i += 1;
-    }
-    false
+    list.contains(&token)
 }
 
 // A loop has more turns than there are tokens.
@@ -391,13 +224,4 @@ pub fn turns_of(tokens: &[u32]) -> usize
         return n + 1;
     }
     4294967296
-}
-
-pub fn either(a: bool, b: bool) -> bool
-    ensures { result ≡ (a || b) }
-{
-    if a {
-        return true;
-    }
-    b
 }

@@ -1,14 +1,11 @@
 // Lexing from tables: the token at an offset, as the branching lexer of crate tokens answers, and `lex` over it, as crate lexer has it.
-// `fill_from` makes the tables once and lends them: a constant array is made anew wherever it stands.
 #![tactic(auto)]
 
-ghost use Rattle.std.specs.Prelude.{◌≡◌, map, true, false, ◌+◌, ◌-◌, ◌<◌, ◌≤◌, length, drop, get_or};
-ghost use Rattle.std.proofs.lemmas.List.Edits.{sets};
+ghost use Rattle.std.specs.Prelude.{◌≡◌, true, false, ◌+◌, ◌-◌, ◌<◌, ◌≤◌, length, drop, get_or};
 ghost use Rattle.words.specs.Token as TokenKind;
 ghost use Rattle.scan.specs.Bytes.{within, ident_part, blank};
-ghost use Rattle.scan.specs.Lexer.{longest_text, from, lexeme, run, token_at, invalid_char, tokens_of, word};
+ghost use Rattle.scan.specs.Lexer.{longest_text, from, lexeme, run, token_at, invalid_char};
 ghost use Rattle.scan.specs.Longest.{keyword_of};
-ghost use Rattle.lexer.specs.Walk.{rest};
 ghost use Rattle.lexer.specs.Lex.{answer, lexed, lexed_words};
 ghost use Rattle.rules.specs.Rule.{class_of, member, goes_on, numeric, operator, stop, start, block, after, kind_of};
 ghost use Rattle.rules.specs.Walk.{walk, after_first, token_of};
@@ -17,8 +14,7 @@ ghost use Rattle.rules.specs.Keys.{key_list, spelling_list, right};
 
 use lexer::Lexed;
 use scan::Token;
-use utf8::{Character, Checked};
-use words::{refusal, token};
+use words::token;
 
 // The class of each byte, 32 to a line, from byte 0 on. The classes are `0` to `U`:
 //     0123456789:;<=>?@ABCDEFGHIJKLMNOPQRSTU
@@ -263,41 +259,7 @@ const NAME: u32 = 99;
 
 const STOP: u32 = 45;
 
-fn class(classes: &[u8; 256], b: u8) -> u8
-    requires { classes.now ≡ class_list }
-    ensures { (result ≡ class_of b) × (b < 256) }
-{
-    classes[b as usize]
-}
-
-fn wide(x: u8) -> u32
-    ensures { result ≡ x }
-{
-    x as u32
-}
-
-fn entry(states: &[u8; 988], state: u32, class: u8) -> u32
-    requires { (states.now ≡ next_list) × (97 ≤ state) × (state ≤ 122) × (48 ≤ class) × (class ≤ 85) }
-    ensures { result ≡ after state (member class) }
-{
-    wide(states[(state as usize - 97) * 38 + (class as usize - 48)])
-}
-
-// The state after a byte.
-fn next(classes: &[u8; 256], states: &[u8; 988], state: u32, b: u8) -> u32
-    requires { (classes.now ≡ class_list) × (states.now ≡ next_list) × (97 ≤ state) × (state ≤ 122) }
-    ensures { (result ≡ after state b) × (32 ≤ result) × (result < 128) }
-{
-    entry(states, state, class(classes, b))
-}
-
-fn kind_of(kinds: &[u32; 96], state: u32) -> u32
-    requires { (kinds.now ≡ kind_list) × (32 ≤ state) × (state < 128) }
-    ensures { result ≡ kind_of state }
-{
-    kinds[state as usize - 32]
-}
-
+#[tactic(auto, using(std::proofs::lemmas::Bool::Decides::nat_tests))]
 fn is_within(low: u32, high: u32, state: u32) -> bool
     ensures { result ≡ within low high state }
 {
@@ -322,367 +284,310 @@ fn is_operator(state: u32) -> bool
     is_within(112, 122, state)
 }
 
-// Where the run of bytes ends that leave the state as it is.
-fn stays(text: &[u8], classes: &[u8; 256], states: &[u8; 988], at: usize, state: u32) -> usize
-    requires { (classes.now ≡ class_list) × (states.now ≡ next_list) × (97 ≤ state) × (state ≤ 122) × (at ≤ length text.now) }
-    ensures { (from result (walk state (drop result text.now)) ≡ from at (walk state (drop at text.now))) × (at ≤ result) × (result ≤ length text.now) }
-{
-    let mut i = at;
-    while i < text.len() {
-        if next(classes, states, state, text[i]) == state {
-            i += 1;
-        } else {
-            return i;
-        }
-    }
-    i
-}
-
-// The walk from a state on: the state in which it ends, as the kind, and where.
-fn walk(text: &[u8], classes: &[u8; 256], states: &[u8; 988], at: usize, state: u32) -> Token
-    requires { (classes.now ≡ class_list) × (states.now ≡ next_list) × (97 ≤ state) × (state ≤ 122) × (at ≤ length text.now) }
-    ensures { (result ≡ from at (walk state (drop at text.now))) × (32 ≤ result.kind) × (result.kind < 128) × (result.kind ≡ block → at < result.end) }
-{
-    let mut q = state;
-    let mut i = at;
-    while i < text.len() {
-        let n = next(classes, states, q, text[i]);
-        if goes_on(n) {
-            q = n;
-            i = stays(text, classes, states, i + 1, n);
-        } else {
-            if n == STOP {
-                return Token { kind: q, end: i };
-            }
-            return Token {
-                kind: n,
-                end: i + 1,
-            };
-        }
-    }
-    Token { kind: q, end: i }
-}
-
-// A letter, a digit or `_`: the classes before the blanks' class.
-fn is_part(classes: &[u8; 256], b: u8) -> bool
-    requires { classes.now ≡ class_list }
-    ensures { (result ≡ ident_part b) × (b < 256) }
-{
-    class(classes, b) < b':'
-}
-
-fn is_blank(classes: &[u8; 256], b: u8) -> bool
-    requires { classes.now ≡ class_list }
-    ensures { result ≡ blank b }
-{
-    class(classes, b) == b':'
-}
-
-// Where the run of letters, digits and `_` that goes on at `at` ends: the walk of a name, by the classes alone.
-fn name_end(text: &[u8], classes: &[u8; 256], at: usize) -> usize
-    requires { classes.now ≡ class_list }
-    ensures { result ≡ at + run ident_part (drop at text.now) }
-{
-    let mut i = at;
-    while i < text.len() {
-        if is_part(classes, text[i]) {
-            i += 1;
-        } else {
-            return i;
-        }
-    }
-    i
-}
-
-// The same of blanks.
-fn blank_end(text: &[u8], classes: &[u8; 256], at: usize) -> usize
-    requires { classes.now ≡ class_list }
-    ensures { result ≡ at + run blank (drop at text.now) }
-{
-    let mut i = at;
-    while i < text.len() {
-        if is_blank(classes, text[i]) {
-            i += 1;
-        } else {
-            return i;
-        }
-    }
-    i
-}
-
-// The walk of a number: the classes alone say where it ends.
-fn numeral(text: &[u8], classes: &[u8; 256], states: &[u8; 988], at: usize, state: u32) -> Token
-    requires { (classes.now ≡ class_list) × (states.now ≡ next_list) × (numeric state ≡ true) × (at ≤ length text.now) }
-    ensures { (result ≡ from at (walk state (drop at text.now))) × (numeric result.kind ≡ true) }
-{
-    let mut q = state;
-    let mut i = at;
-    while i < text.len() {
-        let b = text[i];
-        if is_part(classes, b) {
-            q = next(classes, states, q, b);
-            i += 1;
-        } else {
-            return Token { kind: q, end: i };
-        }
-    }
-    Token { kind: q, end: i }
-}
-
-// The state after an operator's next byte. Most are followed by a blank or a name, of which the class alone says that the operator ends.
-fn second(text: &[u8], classes: &[u8; 256], states: &[u8; 988], at: usize, state: u32) -> u32
-    requires { (classes.now ≡ class_list) × (states.now ≡ next_list) × (operator state ≡ true) }
-    ensures { (result ≡ after_first state (drop at text.now)) × (32 ≤ result) × (result < 128) × (goes_on result ≡ false) × ((result ≡ stop → ⊥) → at < length text.now) }
-{
-    if text.len() <= at {
-        return STOP;
-    }
-    let b = text[at];
-    if class(classes, b) <= b':' {
-        return STOP;
-    }
-    next(classes, states, state, b)
-}
-
-// The line of the only keyword that a word may be, by its first byte and its length; `-` where it is none.
-fn key_of(keys: &[u8; 208], first: u8, n: usize) -> u8
-    requires { (keys.now ≡ key_list) × (1 ≤ n) × (n ≤ 8) }
-    ensures { right result first n ≡ true }
-{
-    if first < b'a' {
-        if first == b'S' {
-            if n == 4 {
-                return b'X';
-            }
-        }
-        return b'-';
-    }
-    if b'z' < first {
-        return b'-';
-    }
-    keys[(first as usize - 97) * 8 + (n - 1)]
-}
-
-// The kind of a word: a keyword's, or Identifier.
-fn keyword(keys: &[u8; 208], spellings: &[u8; 192], word: &[u8]) -> u32
-    requires { (keys.now ≡ key_list) × (spellings.now ≡ spelling_list) }
-    ensures { result ≡ keyword_of word.now }
-{
-    let n = word.len();
-    if 8 < n {
-        return token::IDENTIFIER;
-    }
-    if n < 1 {
-        return token::IDENTIFIER;
-    }
-    let key = key_of(keys, word[0], n);
-    if key == b'-' {
-        return token::IDENTIFIER;
-    }
-    let lines = &spellings[..];
-    let line = (key as usize - 65) * 8;
-    if tokens::same(&lines[line..line + n], word) {
-        return key as u32 - 24;
-    }
-    token::IDENTIFIER
-}
-
 // A character that starts no token.
 fn invalid(text: &[u8], at: usize) -> Token
     requires { at < length text.now }
     ensures { result ≡ from at (invalid_char (drop at text.now)) }
 {
     match utf8::character_at(text, at) {
-        Character::Is(_, len) => Token {
+        Some(character) => Token {
             kind: token::INVALID_CHAR_ERROR,
-            end: at + len,
+            end: at + character.length,
         },
-        Character::Nothing => Token {
+        None => Token {
             kind: token::INVALID_CHAR_ERROR,
             end: at + 1,
         },
     }
 }
 
-// The token of a walk that ended in a state which doesn't say the kind by itself.
-fn special(
-    text: &[u8],
-    keys: &[u8; 208],
-    spellings: &[u8; 192],
-    at: usize,
-    state: u32,
-    end: usize,
-) -> Token
-    requires { (keys.now ≡ key_list) × (spellings.now ≡ spelling_list) × (length text.now ≤ longest_text) × (at < length text.now) × (at ≤ end) × (end ≤ length text.now) × (kind_of state ≡ TokenKind.Eof) × (state ≡ block → 2 ≤ end) }
-    ensures { result ≡ from at (token_of (drop at text.now) (lexeme state (end - at))) }
-{
-    match state {
-        49 => scan::string(text, end, token::LOOSE_STRING_LITERAL, true),
-        50 => scan::string(text, end, token::LOOSE_HEX_STRING_LITERAL, false),
-        51 => scan::line_comment(text, end),
-        52 => scan::block_comment(text, end),
-        START => invalid(text, at),
-        _ => Token {
-            kind: keyword(keys, spellings, &text[at..end]),
-            end,
-        },
-    }
+// The tables, made once and lent: a constant array is made anew wherever it stands.
+#[derive(Drop)]
+struct Tables {
+    classes: [u8; 256],
+    states: [u8; 988],
+    kinds: [u32; 96],
+    keys: [u8; 208],
+    spellings: [u8; 192],
+    ghost classes_are: { classes ≡ class_list },
+    ghost states_are: { states ≡ next_list },
+    ghost kinds_are: { kinds ≡ kind_list },
+    ghost keys_are: { keys ≡ key_list },
+    ghost spellings_are: { spellings ≡ spelling_list },
 }
 
-// The state and the end of the walk from the start, by the state after its first byte.
-fn ending(text: &[u8], classes: &[u8; 256], states: &[u8; 988], at: usize, first: u32) -> Token
-    requires { (classes.now ≡ class_list) × (states.now ≡ next_list) × (at < length text.now) × (first ≡ after start (get_or text.now at 0)) × (32 ≤ first) × (first < 128) }
-    ensures { (result ≡ from at (walk start (drop at text.now))) × (32 ≤ result.kind) × (result.kind < 128) × (result.kind ≡ block → 2 ≤ result.end) }
-{
-    if goes_on(first) {
-        return walk(text, classes, states, at + 1, first);
+impl Tables {
+    fn new() -> Tables {
+        Tables {
+            classes: CLASSES,
+            states: NEXT,
+            kinds: KINDS,
+            keys: KEYS,
+            spellings: SPELLINGS,
+        }
     }
-    if first == STOP {
-        return Token {
-            kind: START,
-            end: at,
-        };
-    }
-    Token {
-        kind: first,
-        end: at + 1,
-    }
-}
 
-// The token that begins with an operator's byte: a fixed spelling of one or two bytes, or a comment. That what `special` gives is taken
-// apart here and below was tried for speed; docs/DECISIONS.md has what it came to.
-fn operator_at(
-    text: &[u8],
-    classes: &[u8; 256],
-    states: &[u8; 988],
-    kinds: &[u32; 96],
-    keys: &[u8; 208],
-    spellings: &[u8; 192],
-    at: usize,
-    first: u32,
-) -> Token
-    requires { (classes.now ≡ class_list) × (states.now ≡ next_list) × (kinds.now ≡ kind_list) × (keys.now ≡ key_list) × (spellings.now ≡ spelling_list) × (length text.now ≤ longest_text) × (at < length text.now) × (first ≡ after start (get_or text.now at 0)) × (operator first ≡ true) }
-    ensures { result ≡ from at (token_at (drop at text.now)) }
-{
-    let n = second(text, classes, states, at + 1, first);
-    if n == STOP {
-        return Token {
-            kind: kind_of(kinds, first),
+    fn class(&self, b: u8) -> u8
+        ensures { (result ≡ class_of b) × (b < 256) }
+    {
+        self.classes[b as usize]
+    }
+
+    fn entry(&self, state: u32, class: u8) -> u32
+        requires { (97 ≤ state) × (state ≤ 122) × (48 ≤ class) × (class ≤ 85) }
+        ensures { result ≡ after state (member class) }
+    {
+        self.states[(state as usize - 97) * 38 + (class as usize - 48)] as u32
+    }
+
+    // The state after a byte.
+    fn next(&self, state: u32, b: u8) -> u32
+        requires { (97 ≤ state) × (state ≤ 122) }
+        ensures { (result ≡ after state b) × (32 ≤ result) × (result < 128) }
+    {
+        self.entry(state, self.class(b))
+    }
+
+    fn kind_of(&self, state: u32) -> u32
+        requires { (32 ≤ state) × (state < 128) }
+        ensures { result ≡ kind_of state }
+    {
+        self.kinds[state as usize - 32]
+    }
+
+    // Where the run of bytes ends that leave the state as it is.
+    fn stays(&self, text: &[u8], at: usize, state: u32) -> usize
+        requires { (97 ≤ state) × (state ≤ 122) × (at ≤ length text.now) }
+        ensures { (from result (walk state (drop result text.now)) ≡ from at (walk state (drop at text.now))) × (at ≤ result) × (result ≤ length text.now) }
+    {
+        scan::run_end(text, at, |b| self.next(state, b) == state)
+    }
+
+    // The walk from a state on: the state in which it ends, as the kind, and where.
+    fn walk(&self, text: &[u8], at: usize, state: u32) -> Token
+        requires { (97 ≤ state) × (state ≤ 122) × (at ≤ length text.now) }
+        ensures { (result ≡ from at (walk state (drop at text.now))) × (32 ≤ result.kind) × (result.kind < 128) × (result.kind ≡ block → at < result.end) }
+    {
+        let mut q = state;
+        let mut i = at;
+        // No `for` goes over runs: `stays` says where the next byte is.
+        while i < text.len() {
+            let n = self.next(q, text[i]);
+            if goes_on(n) {
+                q = n;
+                i = self.stays(text, i + 1, n);
+            } else {
+                if n == STOP {
+                    return Token { kind: q, end: i };
+                }
+                return Token {
+                    kind: n,
+                    end: i + 1,
+                };
+            }
+        }
+        Token { kind: q, end: i }
+    }
+
+    // A letter, a digit or `_`: the classes before the blanks' class.
+    fn is_part(&self, b: u8) -> bool
+        ensures { (result ≡ ident_part b) × (b < 256) }
+    {
+        self.class(b) < b':'
+    }
+
+    fn is_blank(&self, b: u8) -> bool
+        ensures { result ≡ blank b }
+    {
+        self.class(b) == b':'
+    }
+
+    // Where the run of letters, digits and `_` that goes on at `at` ends: the walk of a name, by the classes alone.
+    fn name_end(&self, text: &[u8], at: usize) -> usize
+        ensures { result ≡ at + run ident_part (drop at text.now) }
+    {
+        scan::run_end(text, at, |b| self.is_part(b))
+    }
+
+    // The same of blanks: crate scan's `blank_end` goes by tests, and not by the table.
+    fn blank_end(&self, text: &[u8], at: usize) -> usize
+        ensures { result ≡ at + run blank (drop at text.now) }
+    {
+        scan::run_end(text, at, |b| self.is_blank(b))
+    }
+
+    // The walk of a number: the classes alone say where it ends.
+    fn numeral(&self, text: &[u8], at: usize, state: u32) -> Token
+        requires { (numeric state ≡ true) × (at ≤ length text.now) }
+        ensures { (result ≡ from at (walk state (drop at text.now))) × (numeric result.kind ≡ true) }
+    {
+        let mut q = state;
+        for i in at..text.len() {
+            let b = text[i];
+            if !self.is_part(b) {
+                return Token { kind: q, end: i };
+            }
+            q = self.next(q, b);
+        }
+        Token {
+            kind: q,
+            end: text.len(),
+        }
+    }
+
+    // The state after an operator's next byte. Most are followed by a blank or a name, of which the class alone says that the operator ends.
+    fn second(&self, text: &[u8], at: usize, state: u32) -> u32
+        requires { operator state ≡ true }
+        ensures { (result ≡ after_first state (drop at text.now)) × (32 ≤ result) × (result < 128) × (goes_on result ≡ false) × ((result ≡ stop → ⊥) → at < length text.now) }
+    {
+        if text.len() <= at {
+            return STOP;
+        }
+        let b = text[at];
+        if self.class(b) <= b':' {
+            return STOP;
+        }
+        self.next(state, b)
+    }
+
+    // The line of the only keyword that a word may be, by its first byte and its length; `-` where it is none.
+    fn key_of(&self, first: u8, n: usize) -> u8
+        requires { (1 ≤ n) × (n ≤ 8) }
+        ensures { right result first n ≡ true }
+    {
+        match (first, n) {
+            (b'S', 4) => b'X',
+            (b'a'..=b'z', _) => self.keys[(first as usize - 97) * 8 + (n - 1)],
+            _ => b'-',
+        }
+    }
+
+    // The kind of a word: a keyword's, or Identifier.
+    fn keyword(&self, word: &[u8]) -> u32
+        ensures { result ≡ keyword_of word.now }
+    {
+        let n = word.len();
+        if n < 1 || 8 < n {
+            return token::IDENTIFIER;
+        }
+        let key = self.key_of(word[0], n);
+        if key == b'-' {
+            return token::IDENTIFIER;
+        }
+        let lines = &self.spellings[..];
+        let line = (key as usize - 65) * 8;
+        if &lines[line..line + n] == word {
+            return key as u32 - 24;
+        }
+        token::IDENTIFIER
+    }
+
+    // The token of a walk that ended in a state which doesn't say the kind by itself.
+    fn special(&self, text: &[u8], at: usize, state: u32, end: usize) -> Token
+        requires { (length text.now ≤ longest_text) × (at < length text.now) × (at ≤ end) × (end ≤ length text.now) × (kind_of state ≡ TokenKind.Eof) × (state ≡ block → 2 ≤ end) }
+        ensures { result ≡ from at (token_of (drop at text.now) (lexeme state (end - at))) }
+    {
+        match state {
+            49 => scan::string(text, end, token::LOOSE_STRING_LITERAL, true),
+            50 => scan::string(text, end, token::LOOSE_HEX_STRING_LITERAL, false),
+            51 => scan::line_comment(text, end),
+            52 => scan::block_comment(text, end),
+            START => invalid(text, at),
+            _ => Token {
+                kind: self.keyword(&text[at..end]),
+                end,
+            },
+        }
+    }
+
+    // The state and the end of the walk from the start, by the state after its first byte.
+    fn ending(&self, text: &[u8], at: usize, first: u32) -> Token
+        requires { (at < length text.now) × (first ≡ after start (get_or text.now at 0)) × (32 ≤ first) × (first < 128) }
+        ensures { (result ≡ from at (walk start (drop at text.now))) × (32 ≤ result.kind) × (result.kind < 128) × (result.kind ≡ block → 2 ≤ result.end) }
+    {
+        if goes_on(first) {
+            return self.walk(text, at + 1, first);
+        }
+        if first == STOP {
+            return Token {
+                kind: START,
+                end: at,
+            };
+        }
+        Token {
+            kind: first,
             end: at + 1,
-        };
+        }
     }
-    let kind = kind_of(kinds, n);
-    if kind != token::EOF {
-        return Token { kind, end: at + 2 };
-    }
-    let comment = special(text, keys, spellings, at, n, at + 2);
-    Token {
-        kind: comment.kind,
-        end: comment.end,
-    }
-}
 
-// The token at an offset inside the text. Names and blanks are run through by their classes.
-fn token_at(
-    text: &[u8],
-    classes: &[u8; 256],
-    states: &[u8; 988],
-    kinds: &[u32; 96],
-    keys: &[u8; 208],
-    spellings: &[u8; 192],
-    at: usize,
-) -> Token
-    requires { (classes.now ≡ class_list) × (states.now ≡ next_list) × (kinds.now ≡ kind_list) × (keys.now ≡ key_list) × (spellings.now ≡ spelling_list) × (length text.now ≤ longest_text) × (at < length text.now) }
-    ensures { result ≡ from at (token_at (drop at text.now)) }
-{
-    let first = next(classes, states, START, text[at]);
-    if first == NAME {
-        let end = name_end(text, classes, at + 1);
-        let kind = keyword(keys, spellings, &text[at..end]);
-        return Token { kind, end };
+    // The token that begins with an operator's byte: a fixed spelling of one or two bytes, or a comment. That what `special` gives is taken
+    // apart here and below was tried for speed; docs/DECISIONS.md has what it came to.
+    fn operator_at(&self, text: &[u8], at: usize, first: u32) -> Token
+        requires { (length text.now ≤ longest_text) × (at < length text.now) × (first ≡ after start (get_or text.now at 0)) × (operator first ≡ true) }
+        ensures { result ≡ from at (token_at (drop at text.now)) }
+    {
+        let n = self.second(text, at + 1, first);
+        if n == STOP {
+            return Token {
+                kind: self.kind_of(first),
+                end: at + 1,
+            };
+        }
+        let kind = self.kind_of(n);
+        if kind != token::EOF {
+            return Token { kind, end: at + 2 };
+        }
+        let comment = self.special(text, at, n, at + 2);
+        Token {
+            kind: comment.kind,
+            end: comment.end,
+        }
     }
-    if first == BLANKS {
-        return Token {
-            kind: token::WHITESPACE,
-            end: blank_end(text, classes, at + 1),
-        };
-    }
-    if is_operator(first) {
-        return operator_at(text, classes, states, kinds, keys, spellings, at, first);
-    }
-    if is_numeric(first) {
-        let t = numeral(text, classes, states, at + 1, first);
-        return Token {
-            kind: kind_of(kinds, t.kind),
-            end: t.end,
-        };
-    }
-    let t = ending(text, classes, states, at, first);
-    let kind = kind_of(kinds, t.kind);
-    if kind != token::EOF {
-        return Token { kind, end: t.end };
-    }
-    let other = special(text, keys, spellings, at, t.kind, t.end);
-    Token {
-        kind: other.kind,
-        end: other.end,
-    }
-}
 
-// The tokens from an offset on, put from a word on, as many as there is room for, and how many there are with those before: each is read once,
-// also where there is no room.
-fn fill_from(text: &[u8], words: &mut [u32], start: usize, first: usize) -> usize
-    requires { (length text.now ≤ longest_text) × (start ≤ length text.now) × (first ≤ start) }
-    ensures { (result ≡ first + length (rest text.now start)) × (words.new ≡ sets words.old first (map word (rest text.now start))) }
-{
-    let classes = CLASSES;
-    let states = NEXT;
-    let kinds = KINDS;
-    let keys = KEYS;
-    let spellings = SPELLINGS;
-    let mut at = start;
-    let mut n = first;
-    while at < text.len() {
-        let t = token_at(text, &classes, &states, &kinds, &keys, &spellings, at);
-        let end = t.end;
-        lexer::put(words, n, words::token_word(t.kind, end as u32));
-        n += 1;
-        at = end;
+    // The token at an offset inside the text. Names and blanks are run through by their classes.
+    fn token_at(&self, text: &[u8], at: usize) -> Token
+        requires { (length text.now ≤ longest_text) × (at < length text.now) }
+        ensures { result ≡ from at (token_at (drop at text.now)) }
+    {
+        let first = self.next(START, text[at]);
+        if first == NAME {
+            let end = self.name_end(text, at + 1);
+            let kind = self.keyword(&text[at..end]);
+            return Token { kind, end };
+        }
+        if first == BLANKS {
+            return Token {
+                kind: token::WHITESPACE,
+                end: self.blank_end(text, at + 1),
+            };
+        }
+        if is_operator(first) {
+            return self.operator_at(text, at, first);
+        }
+        if is_numeric(first) {
+            let t = self.numeral(text, at + 1, first);
+            return Token {
+                kind: self.kind_of(t.kind),
+                end: t.end,
+            };
+        }
+        let t = self.ending(text, at, first);
+        let kind = self.kind_of(t.kind);
+        if kind != token::EOF {
+            return Token { kind, end: t.end };
+        }
+        let other = self.special(text, at, t.kind, t.end);
+        Token {
+            kind: other.kind,
+            end: other.end,
+        }
     }
-    lexer::put(words, n, words::token_word(token::EOF, at as u32));
-    n + 1
-}
-
-// The tokens' words, and the number of tokens.
-fn fill(text: &[u8], words: &mut [u32]) -> usize
-    requires { length text.now ≤ longest_text }
-    ensures { (result ≡ length (tokens_of text.now)) × (words.new ≡ sets words.old 0 (map word (tokens_of text.now))) }
-{
-    let first = lexer::put_mark(text, words);
-    fill_from(text, words, 3 * first, first)
 }
 
 // `lex` of crate lexer, from the tables: a text's tokens as words, Eof last, and 0 in the rest of the slice; where it refuses, 0 in all of it.
 pub fn lex(text: &[u8], tokens: &mut [u32]) -> Lexed
     ensures { (answer result ≡ lexed text.now (length tokens.old)) × (tokens.new ≡ lexed_words text.now (length tokens.old)) }
 {
-    if lexer::LONGEST_TEXT < text.len() {
-        lexer::clear(tokens, 0);
-        return Lexed::Refused(refusal::TOO_LONG, lexer::LONGEST_TEXT);
-    }
-    match utf8::check(text) {
-        Checked::Good => {
-            let n = fill(text, tokens);
-            if tokens.len() < n {
-                lexer::clear(tokens, 0);
-                return Lexed::Refused(refusal::TOKENS_DONT_FIT, n);
-            }
-            lexer::clear(tokens, n);
-            Lexed::Tokens(n)
-        }
-        Checked::Bad(way, at) => {
-            lexer::clear(tokens, 0);
-            Lexed::Refused(lexer::not_utf8(way), at)
-        }
-    }
+    let tables = Tables::new();
+    lexer::lex_by(text, tokens, |at| tables.token_at(text, at))
 }

@@ -1,15 +1,14 @@
 // Lists the tokens of the text on standard input: their number, then for each its number, kind, start and end.
 #![tactic(auto)]
 
-use lexer::Lexed;
 use std::io::{self, Read};
-use words::refusal;
+use words::{Refusal, Refused};
 
 // The most bytes of text that are read.
 const LONGEST: usize = 2048;
 
-fn print_refused(rt: &impl Print, number: u32, place: usize) -> io::Result<()> {
-    println!(rt; "refused {number} {place}")
+fn print_refused(rt: &impl Print, refused: Refused) -> io::Result<()> {
+    println!(rt; "refused {} {}", refused.number(), refused.place)
 }
 
 fn print_tokens(rt: &impl Print, tokens: &[u32]) -> io::Result<()> {
@@ -24,7 +23,7 @@ fn print_tokens(rt: &impl Print, tokens: &[u32]) -> io::Result<()> {
 
 fn list(rt: &impl Print, text: &[u8], tokens: &mut [u32]) -> io::Result<()> {
     match tables::lex(text, tokens) {
-        Lexed::Tokens(n) => {
+        Ok(n) => {
             println!(rt; "tokens {n}")?;
             // Always so: there are no more tokens than words were lent.
             if n <= tokens.len() {
@@ -32,7 +31,7 @@ fn list(rt: &impl Print, text: &[u8], tokens: &mut [u32]) -> io::Result<()> {
             }
             Ok(())
         }
-        Lexed::Refused(number, place) => print_refused(rt, number, place),
+        Err(refused) => print_refused(rt, refused),
     }
 }
 
@@ -41,7 +40,7 @@ fn main(rt: HostRuntime) -> io::Result<()> {
     let mut text = Vec::new(rt.alloc());
     rt.stdin().take(LONGEST as u64 + 1).read_to_end(&mut text)?;
     if LONGEST < text.len() {
-        return print_refused(&rt, refusal::TOO_LONG, LONGEST);
+        return print_refused(&rt, Refusal::TooLong.at(LONGEST as u32));
     }
     let mut tokens = [0u32; 2049];
     list(&rt, text.as_slice(), &mut tokens)

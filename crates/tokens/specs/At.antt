@@ -7,7 +7,7 @@ use Rattle.std.proofs.Math.ListN.{get_or-eq_default}
 use Rattle.words.specs.Token as TokenKind
 use Rattle.utf8.specs.Utf8.{character_at}
 use Rattle.utf8.specs.declared.Character.{Character}
-use Rattle.utf8.specs.declared.Character.TheVariants.{Is, Nothing}
+use Rattle.std.specs.Prelude.{Option, Some, None}
 use Rattle.scan.specs.declared.Token.{Token}
 use Rattle.scan.specs.Bytes.{ascii, Class, digit, upper, lower, ident_start, ident_part, blank, is_digit}
 use Rattle.scan.specs.Comments.{behind, behind-all}
@@ -16,9 +16,12 @@ use Rattle.scan.specs.Longest.{keyword_of, run_length, and-true}
 use Rattle.tokens.specs.First
 use Rattle.tokens.specs.First.{hex_prefix, bin_prefix, hex-token, word-token, number-token, blank-token, quote-token, at-builtin, at-error, slash-line, slash-block, slash-alone, other-token}
 use Rattle.scan.specs.Fits.{spelled-within, longest-within}
-use Rattle.tokens.specs.declared.Spelled.TheVariants.{Is as Is', Nothing as Nothing'}
+use Rattle.std.specs.Prelude.{Some, None}
+use Rattle.std.specs.Cmp.Lexicographic.{pointwise}
+use Rattle.words.specs.Parts.{part-whole}
+use Rattle.tokens.specs.declared.Spelled.{Spelled}
 use Rattle.tokens.specs.Cases.{match_of}
-use Rattle.scan.specs.Laws.{ended, rest-cons, from_more, lt-or-le}
+use Rattle.scan.specs.Laws.{ended, rest-cons, from_more, lt-or-le, spelled-starts}
 
 -- A byte that begins no word, number, run of blanks, string, comment or builtin's name.
 pub record Other (b : ℕ) : Type 0 where
@@ -30,24 +33,29 @@ pub record Other (b : ℕ) : Type 0 where
   pub sign : b ≡ 64 → ⊥
 
 -- a fixed spelling has at most two bytes
-pub fixed-fits : (kind len b n : ℕ) → match_of (Is' kind len) ≡ longest no_match (map rule punctuation) (b ∷ n ∷ []) → len ≤ 2
-fixed-fits kind len b n p =
+pub fixed-fits : (s : Spelled) (b n : ℕ) → match_of (Some s) ≡ longest no_match (map rule punctuation) (b ∷ n ∷ []) → s.len ≤ 2
+fixed-fits s b n p =
     let h = longest-within (b ∷ n ∷ []) no_match (map rule punctuation) (omega arith) in
-    let e : len ≡ (longest no_match (map rule punctuation) (b ∷ n ∷ [])).len = ap (λ (m : Match). m.len) p in
+    let e : s.len ≡ (longest no_match (map rule punctuation) (b ∷ n ∷ [])).len = ap (λ (m : Match). m.len) p in
     omega arith
 
+-- The test in code on what stands at an offset.
+pub spelled-there : (w text : List ℕ) (at : ℕ) (r : Bool) → r ≡ pointwise eqb w (take (length w) (take (length text - at) (drop at text)))
+    → r ≡ spelled w (drop at text)
+spelled-there w text at r e = spelled-starts w (drop at text) r (rw (part-whole at text) at e)
+
 -- how long an invalid character is
-abbrev pub invalid_len : Character → ℕ
-invalid_len (Is c n) = n
-invalid_len Nothing = 1
+abbrev pub invalid_len : Option Character → ℕ
+invalid_len (Some c) = c.length
+invalid_len None = 1
 
 invalid-is : (x : List ℕ) → invalid_char x ≡ lexeme TokenKind.InvalidCharError (invalid_len (character_at x))
 unfolding invalid_char
 invalid-is x = go (character_at x)
   where
-    go : (c : Character) → elim c [ Is c n ↦ lexeme TokenKind.InvalidCharError n | Nothing ↦ lexeme TokenKind.InvalidCharError 1 ] ≡ lexeme TokenKind.InvalidCharError (invalid_len c)
-    go (Is c n) = refl
-    go Nothing = refl
+    go : (c : Option Character) → elim c [ Some c ↦ lexeme TokenKind.InvalidCharError c.length | None ↦ lexeme TokenKind.InvalidCharError 1 ] ≡ lexeme TokenKind.InvalidCharError (invalid_len c)
+    go (Some c) = refl
+    go None = refl
 
 -- a byte of each class in turn, read one by one, where 0, what is read past the end, is of none
 pub classed-cons : (text : List ℕ) (i : ℕ) (p : Class) (ps : List Class) → p 0 ≡ false
@@ -65,9 +73,9 @@ module _ (text : List ℕ) (at letter radix : ℕ) (l : 0 < letter) where
   abbrev prefix : List Class
   prefix = eqb 48 ∷ eqb letter ∷ is_digit radix ∷ []
 
-  prefix-is : classed prefix (drop at text)
+  pub prefix_is : classed prefix (drop at text)
       ≡ (eqb 48 (get_or text at 0) && (eqb letter (get_or text (at + 1) 0) && (is_digit radix (get_or text (at + 2) 0) && true)))
-  prefix-is =
+  prefix_is =
       classed-cons text at (eqb 48) _ refl
       ∙ ap (λ (t : Bool). eqb 48 (get_or text at 0) && t)
       (classed-cons text (at + 1) (eqb letter) _ (ne_eqb letter 0 (omega arith))
@@ -81,14 +89,14 @@ module _ (text : List ℕ) (at letter radix : ℕ) (l : 0 < letter) where
       zero-no = unfold is_digit digit upper lower in refl
 
   pub prefix-unlike : (get_or text at 0 ≡ 48 → ⊥) → false ≡ classed prefix (drop at text)
-  prefix-unlike e = rw (prefix-is, ne_eqb 48 (get_or text at 0) (λ f. e (sym f)))
+  prefix-unlike e = rw (prefix_is, ne_eqb 48 (get_or text at 0) (λ f. e (sym f)))
 
   module _ (e : get_or text at 0 ≡ 48) (n : ℕ) (en : n ≡ get_or text (at + 1) 0) where
     pub prefix-other : (n ≡ letter → ⊥) → false ≡ classed prefix (drop at text)
-    prefix-other f = rw (prefix-is, e, ne_eqb letter (get_or text (at + 1) 0) (λ g. f (en ∙ sym g)))
+    prefix-other f = rw (prefix_is, e, ne_eqb letter (get_or text (at + 1) 0) (λ g. f (en ∙ sym g)))
 
     pub prefix-digit : (m : ℕ) (r : Bool) → n ≡ letter → m ≡ get_or text (at + 2) 0 → r ≡ is_digit radix m → r ≡ classed prefix (drop at text)
-    prefix-digit m r f em er = rw (prefix-is, e, eq-eqb letter (get_or text (at + 1) 0) (sym f ∙ en), ← em, ← er) (sym (and-true r))
+    prefix-digit m r f em er = rw (prefix_is, e, eq-eqb letter (get_or text (at + 1) 0) (sym f ∙ en), ← em, ← er) (sym (and-true r))
 
 module _ (text : List ℕ) (at : ℕ) where
   abbrev pub here : Token
@@ -193,12 +201,12 @@ module _ (text : List ℕ) (at : ℕ) where
         other : token_at (drop at text) ≡ finish (longest no_match (map rule punctuation) (b ∷ n ∷ [])) (drop at text)
         other = rw (second, rest-cons text at h) (other-token b s o.start o.number o.blanks (not-this 34 o.quote) (not-this 47 o.slash) (not-this 64 o.sign))
 
-        pub fixed-at : (kind len : ℕ) → match_of (Is' kind len) ≡ longest no_match (map rule punctuation) (b ∷ n ∷ []) → ended kind (at + len) ≡ here
-        fixed-at kind len p =
-            let z : at + len ≡ at + (len + 0) = omega arith in
+        pub fixed-at : (f : Spelled) → match_of (Some f) ≡ longest no_match (map rule punctuation) (b ∷ n ∷ []) → ended f.kind (at + f.len) ≡ here
+        fixed-at f p =
+            let z : at + f.len ≡ at + (f.len + 0) = omega arith in
             rw (other, ← p, z)
 
-        pub invalid-at : (c : Character) (len : ℕ) → match_of Nothing' ≡ longest no_match (map rule punctuation) (b ∷ n ∷ [])
+        pub invalid-at : (c : Option Character) (len : ℕ) → match_of None ≡ longest no_match (map rule punctuation) (b ∷ n ∷ [])
             → c ≡ character_at (drop at text) → invalid_len c ≡ len → ended TokenKind.InvalidCharError (at + len) ≡ here
         invalid-at c len p e f =
             let z : at + len ≡ at + (0 + len) = omega arith in

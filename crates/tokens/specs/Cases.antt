@@ -1,9 +1,9 @@
 -- What the lexer's functions answer, in the definition's terms.
+use Rattle.std.specs.Prelude.{Option, Some, None}
 use Rattle.tokens.specs.declared.Spelled.{Spelled}
-use Rattle.tokens.specs.declared.Spelled.TheVariants.{Is, Nothing}
 use Rattle.scan.specs.Lexer.{Match, no_match, plain}
 
 -- A fixed spelling's kind and length, or no match.
-abbrev pub match_of : Spelled → Match
-match_of (Is kind len) = record { len = len; after = plain kind }
-match_of Nothing = no_match
+abbrev pub match_of : Option Spelled → Match
+match_of (Some s) = record { len = s.len; after = plain s.kind }
+match_of None = no_match

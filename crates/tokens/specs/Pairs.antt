@@ -1,25 +1,27 @@
 -- Laws of the punctuation: spellings of one or two bytes, found by the first byte and the next one.
-use Rattle.std.specs.Prelude.{◌≡◌, List, [], ◌∷◌, map, Bool, not, ◌&&◌, ◌||◌, ℕ, ◌≤◌, ◌<◌, eqb, ltb, length, get_or}
+use Rattle.std.specs.Prelude.{◌≡◌, List, [], ◌∷◌, map, Bool, not, ◌&&◌, ◌||◌, ℕ, ◌≤◌, ◌<◌, eqb, ltb, length, get_or, Option, Some, None}
 use Rattle.std.proofs.Math.Path.{refl}
 use Rattle.std.proofs.Common.{sym, ◌∙◌, ap, eq-eqb, ne_eqb, eqb-true}
 use Rattle.std.proofs.Math.Bool.{true, false, cond}
 use Rattle.std.proofs.lemmas.Bool.{false≢true}
 use native.Mathlib.Omega.{arith}
-use Rattle.tokens.specs.declared.Spelled.{Spelled}
-use Rattle.tokens.specs.declared.Spelled.TheVariants.{Is, Nothing}
 use Rattle.scan.specs.Lexer.{Match, longest, matched, spelled, no_match, Fixed, rule, punctuation, plain}
 use Rattle.scan.specs.Longest.{keep, took, match, with_head, and_both, Outside, holds, covered, outside, token-miss}
-use Rattle.tokens.specs.Cases.{match_of}
 
--- the first spelling of two bytes that ends in `n`, else another
-abbrev pub pair_of : List Fixed → ℕ → Spelled → Spelled
-pair_of [] n other = other
-pair_of (f ∷ fs) n other = cond (eqb (length f.spelling) 2 && eqb (get_or f.spelling 1 0) n) (Is f.kind 2) (pair_of fs n other)
+-- the kind of the first spelling of two bytes that ends in `n`
+abbrev pub pair_of : List Fixed → ℕ → Option ℕ
+pair_of [] n = None
+pair_of (f ∷ fs) n = cond (eqb (length f.spelling) 2 && eqb (get_or f.spelling 1 0) n) (Some f.kind) (pair_of fs n)
 
--- the first spelling of one byte
-abbrev pub alone_of : List Fixed → Spelled
-alone_of [] = Nothing
-alone_of (f ∷ fs) = cond (eqb (length f.spelling) 1) (Is f.kind 1) (alone_of fs)
+-- the kind of the first spelling of one byte
+abbrev pub alone_of : List Fixed → Option ℕ
+alone_of [] = None
+alone_of (f ∷ fs) = cond (eqb (length f.spelling) 1) (Some f.kind) (alone_of fs)
+
+-- a spelling of so many bytes, or else another match
+abbrev pub found : ℕ → Option ℕ → Match → Match
+found n (Some k) other = match k n
+found n None other = other
 
 -- spellings of one or two bytes that begin with `b`
 data From (b : ℕ) : List Fixed → Type 0 where
@@ -51,25 +53,25 @@ module _ (b n : ℕ) where
       go false = omega arith
 
   -- a longer match than `m`, which has one byte or none
-  chosen : (m : Match) (other : Spelled) (k c : ℕ) (fs : List Fixed) → m.len < 2 → From b fs
-      → longest m (map rule fs) (b ∷ n ∷ []) ≡ match_of (pair_of fs n other)
-      → longest m (map rule (record { kind = k; spelling = b ∷ c ∷ [] } ∷ fs)) (b ∷ n ∷ []) ≡ match_of (cond (eqb c n) (Is k 2) (pair_of fs n other))
+  chosen : (m other : Match) (k c : ℕ) (fs : List Fixed) → m.len < 2 → From b fs
+      → longest m (map rule fs) (b ∷ n ∷ []) ≡ found 2 (pair_of fs n) other
+      → longest m (map rule (record { kind = k; spelling = b ∷ c ∷ [] } ∷ fs)) (b ∷ n ∷ []) ≡ found 2 (cond (eqb c n) (Some k) (pair_of fs n)) other
   chosen m other k c fs h f e = go (eqb c n) refl
     where
       go : (t : Bool) → eqb c n ≡ t
-          → longest m (map rule (record { kind = k; spelling = b ∷ c ∷ [] } ∷ fs)) (b ∷ n ∷ []) ≡ match_of (cond t (Is k 2) (pair_of fs n other))
+          → longest m (map rule (record { kind = k; spelling = b ∷ c ∷ [] } ∷ fs)) (b ∷ n ∷ []) ≡ found 2 (cond t (Some k) (pair_of fs n)) other
       go true g = took m _ (map rule fs) _ 2 (two-matched k c ∙ ap (λ (t : Bool). cond {A = ℕ} t 2 0) g) h ∙ pair-kept k f
       go false g = keep m _ (map rule fs) _ (rw (two-matched k c, g) (omega arith)) ∙ e
 
-  after_one : (k : ℕ) {fs : List Fixed} → From b fs → longest (match k 1) (map rule fs) (b ∷ n ∷ []) ≡ match_of (pair_of fs n (Is k 1))
+  after_one : (k : ℕ) {fs : List Fixed} → From b fs → longest (match k 1) (map rule fs) (b ∷ n ∷ []) ≡ found 2 (pair_of fs n) (match k 1)
   after_one k end = unfold longest in refl
   after_one k (one {k = j} {fs = fs} f) = keep _ _ (map rule fs) _ (rw (one-matched j) (omega arith)) ∙ after_one k f
-  after_one k (two {k = j} {c = c} {fs = fs} f) = chosen (match k 1) (Is k 1) j c fs (omega arith) f (after_one k f)
+  after_one k (two {k = j} {c = c} {fs = fs} f) = chosen (match k 1) (match k 1) j c fs (omega arith) f (after_one k f)
 
-  from-none : {fs : List Fixed} → From b fs → longest no_match (map rule fs) (b ∷ n ∷ []) ≡ match_of (pair_of fs n (alone_of fs))
+  from-none : {fs : List Fixed} → From b fs → longest no_match (map rule fs) (b ∷ n ∷ []) ≡ found 2 (pair_of fs n) (found 1 (alone_of fs) no_match)
   from-none end = unfold longest in refl
   from-none (one {k = j} {fs = fs} f) = took no_match _ (map rule fs) _ 1 (one-matched j) (omega arith) ∙ after_one j f
-  from-none (two {k = j} {c = c} {fs = fs} f) = chosen no_match (alone_of fs) j c fs (omega arith) f (from-none f)
+  from-none (two {k = j} {c = c} {fs = fs} f) = chosen no_match (found 1 (alone_of fs) no_match) j c fs (omega arith) f (from-none f)
 
 -- Only the spellings that begin with the byte count.
 abbrev headed : List Fixed → Bool
@@ -124,22 +126,22 @@ punctuation-short : short punctuation ≡ true
 unfolding punctuation
 punctuation-short = refl
 
-pub punctuation-is : (b n : ℕ) (q r : Spelled) → q ≡ alone_of (with_head b punctuation) → r ≡ pair_of (with_head b punctuation) n q
-    → match_of r ≡ longest no_match (map rule punctuation) (b ∷ n ∷ [])
+pub punctuation-is : (b n : ℕ) (q r : Option ℕ) → q ≡ alone_of (with_head b punctuation) → r ≡ pair_of (with_head b punctuation) n
+    → found 2 r (found 1 q no_match) ≡ longest no_match (map rule punctuation) (b ∷ n ∷ [])
 punctuation-is b n q r e p =
-    ap match_of (p ∙ ap (λ (x : Spelled). pair_of (with_head b punctuation) n x) e)
-    ∙ sym (head-longest punctuation no_match b (n ∷ []) punctuation-headed ∙ from-none b n (from-head punctuation b punctuation-short))
+    rw (e, p) (sym (head-longest punctuation no_match b (n ∷ []) punctuation-headed ∙ from-none b n (from-head punctuation b punctuation-short)))
 
 -- one byte, by that byte
-pub single-at : (a b : ℕ) (r : Spelled) → b ≡ a → r ≡ alone_of (with_head a punctuation) → r ≡ alone_of (with_head b punctuation)
-single-at a b r e p = p ∙ ap (λ (x : ℕ). alone_of (with_head x punctuation)) (sym e)
+pub single-at : (a b : ℕ) (r : Option ℕ) → b ≡ a → r ≡ alone_of (with_head a punctuation) → r ≡ alone_of (with_head b punctuation)
+single-at a b r e p = rw e p
 
--- two bytes, by the first
-pub double-at : (a b n : ℕ) (q r : Spelled) → b ≡ a → r ≡ pair_of (with_head a punctuation) n q → r ≡ pair_of (with_head b punctuation) n q
-double-at a b n q r e p = p ∙ ap (λ (x : ℕ). pair_of (with_head x punctuation) n q) (sym e)
+-- two bytes, by both
+pub double-at : (a c b n : ℕ) (r : Option ℕ) → b ≡ a → n ≡ c → r ≡ pair_of (with_head a punctuation) c → r ≡ pair_of (with_head b punctuation) n
+double-at a c b n r e f p = rw (e, f) p
 
-pub pair-more : (k c n : ℕ) (q r other : Spelled) → q ≡ other → r ≡ cond (eqb c n) (Is k 2) q → r ≡ cond (eqb c n) (Is k 2) other
-pair-more k c n q r other e p = p ∙ ap (λ (x : Spelled). cond (eqb c n) (Is k 2) x) e
+-- a spelling before others: the kind is its own, or theirs
+pub pair-more : (k c n : ℕ) (q r other : Option ℕ) → q ≡ other → r ≡ cond (eqb c n) (Some k) q → r ≡ cond (eqb c n) (Some k) other
+pair-more k c n q r other e p = p ∙ ap (λ (x : Option ℕ). cond (eqb c n) (Some k) x) e
 
 -- none, where no spelling begins with the byte
 no-head : (fs : List Fixed) (heads : List ℕ) (b : ℕ) → covered heads fs ≡ true → Outside b heads → with_head b fs ≡ []
@@ -148,7 +150,7 @@ no-head (f ∷ fs) heads b c o =
     let g = and_both (holds heads (get_or f.spelling 0 0)) (covered heads fs) c in
     rw (ne_eqb (get_or f.spelling 0 0) b (λ e. outside heads b _ o g.0 (sym e))) (no-head fs heads b g.1 o)
 
-pub single-none : (heads : List ℕ) (b : ℕ) → covered heads punctuation ≡ true → Outside b heads → Nothing ≡ alone_of (with_head b punctuation)
+pub single-none : (heads : List ℕ) (b : ℕ) → covered heads punctuation ≡ true → Outside b heads → None ≡ alone_of (with_head b punctuation)
 single-none heads b c o = ap alone_of (sym (no-head punctuation heads b c o))
 
 -- and where none of two bytes does
@@ -156,17 +158,38 @@ abbrev covered_pairs : List ℕ → List Fixed → Bool
 covered_pairs heads [] = true
 covered_pairs heads (f ∷ fs) = (not (eqb (length f.spelling) 2) || holds heads (get_or f.spelling 0 0)) && covered_pairs heads fs
 
-no-pair : (fs : List Fixed) (heads : List ℕ) (b n : ℕ) (q : Spelled) → covered_pairs heads fs ≡ true → Outside b heads → q ≡ pair_of (with_head b fs) n q
-no-pair [] heads b n q c o = refl
-no-pair (f ∷ fs) heads b n q c o =
+no-pair : (fs : List Fixed) (heads : List ℕ) (b n : ℕ) → covered_pairs heads fs ≡ true → Outside b heads → None ≡ pair_of (with_head b fs) n
+no-pair [] heads b n c o = refl
+no-pair (f ∷ fs) heads b n c o =
     let g = and_both (not (eqb (length f.spelling) 2) || holds heads (get_or f.spelling 0 0)) (covered_pairs heads fs) c in
-    go (eqb (get_or f.spelling 0 0) b) refl (eqb (length f.spelling) 2) refl g.0 (no-pair fs heads b n q g.1 o)
+    go (eqb (get_or f.spelling 0 0) b) refl (eqb (length f.spelling) 2) refl g.0 (no-pair fs heads b n g.1 o)
   where
     go : (t : Bool) → eqb (get_or f.spelling 0 0) b ≡ t → (u : Bool) → eqb (length f.spelling) 2 ≡ u → (not u || holds heads (get_or f.spelling 0 0)) ≡ true
-        → q ≡ pair_of (with_head b fs) n q → q ≡ pair_of (cond t (f ∷ with_head b fs) (with_head b fs)) n q
+        → None ≡ pair_of (with_head b fs) n → None ≡ pair_of (cond t (f ∷ with_head b fs) (with_head b fs)) n
     go false e u h l i = i
     go true e false h l i = rw h i
     go true e true h l i = absurd (outside heads b _ o l (sym (eqb-true _ b e)))
 
-pub double-none : (heads : List ℕ) (b n : ℕ) (q : Spelled) → covered_pairs heads punctuation ≡ true → Outside b heads → q ≡ pair_of (with_head b punctuation) n q
-double-none heads b n q c o = no-pair punctuation heads b n q c o
+pub double-none : (heads : List ℕ) (b n : ℕ) → covered_pairs heads punctuation ≡ true → Outside b heads → None ≡ pair_of (with_head b punctuation) n
+double-none heads b n c o = no-pair punctuation heads b n c o
+
+-- nor with this second byte, where none of those that begin with the first one ends so
+abbrev covered_seconds : List ℕ → List Fixed → Bool
+covered_seconds seconds [] = true
+covered_seconds seconds (f ∷ fs) = (not (eqb (length f.spelling) 2) || holds seconds (get_or f.spelling 1 0)) && covered_seconds seconds fs
+
+no-second : (fs : List Fixed) (seconds : List ℕ) (n : ℕ) → covered_seconds seconds fs ≡ true → Outside n seconds → None ≡ pair_of fs n
+no-second [] seconds n c o = refl
+no-second (f ∷ fs) seconds n c o =
+    let g = and_both (not (eqb (length f.spelling) 2) || holds seconds (get_or f.spelling 1 0)) (covered_seconds seconds fs) c in
+    go (eqb (length f.spelling) 2) (eqb (get_or f.spelling 1 0) n) refl g.0 (no-second fs seconds n g.1 o)
+  where
+    go : (u t : Bool) → eqb (get_or f.spelling 1 0) n ≡ t → (not u || holds seconds (get_or f.spelling 1 0)) ≡ true
+        → None ≡ pair_of fs n → None ≡ cond (u && t) (Some f.kind) (pair_of fs n)
+    go false t e h i = i
+    go true false e h i = i
+    go true true e h i = absurd (outside seconds n _ o h (sym (eqb-true _ n e)))
+
+pub double-other : (a : ℕ) (seconds : List ℕ) (b n : ℕ) → b ≡ a → covered_seconds seconds (with_head a punctuation) ≡ true → Outside n seconds
+    → None ≡ pair_of (with_head b punctuation) n
+double-other a seconds b n e c o = rw e (no-second (with_head a punctuation) seconds n c o)

@@ -3,7 +3,7 @@
 
 ghost use Rattle.std.specs.Prelude.{◌≡◌, [], ◌∷◌, map, true, false, cond, ◌+◌, ◌<◌, ◌≤◌, eqb, length, take, drop, get_or};
 ghost use Rattle.scan.specs.Bytes.{digit, ident_start, is_digit};
-ghost use Rattle.scan.specs.Lexer.{longest_text, from, spelled, classed, token_at, longest, no_match, rule, punctuation};
+ghost use Rattle.scan.specs.Lexer.{longest_text, from, classed, token_at, longest, no_match, rule, punctuation};
 ghost use Rattle.scan.specs.Longest.{same, keyword_of, with_head};
 ghost use Rattle.tokens.specs.Cases.{match_of};
 ghost use Rattle.tokens.specs.At.{Other};
@@ -11,61 +11,34 @@ ghost use Rattle.tokens.specs.Next.{next_token};
 ghost use Rattle.tokens.specs.Pairs.{pair_of, alone_of};
 
 use scan::{LONGEST_TEXT, Token};
-use utf8::Character;
 use words::token;
 
 // What a fixed spelling is: a kind and its length in bytes.
 #[derive(Clone, Copy)]
-pub(crate) enum Spelled {
-    Is(u32, usize),
-    Nothing,
+pub(crate) struct Spelled {
+    kind: u32,
+    len: usize,
 }
 
 // Whether two spellings are alike.
 pub fn same(a: &[u8], b: &[u8]) -> bool
     ensures { result ≡ same a.now b.now }
 {
-    if a.len() != b.len() {
-        return false;
-    }
-    let mut i = 0;
-    while i < a.len() {
-        if a[i] != b[i] {
-            return false;
-        }
-        i += 1;
-    }
-    true
-}
-
-// Whether the text from the offset on begins with the spelling.
-fn begins_at(text: &[u8], at: usize, spelling: &[u8]) -> bool
-    requires { at < length text.now }
-    ensures { result ≡ spelled spelling.now (drop at text.now) }
-{
-    if text.len() - at < spelling.len() {
-        return false;
-    }
-    let mut i = 0;
-    while i < spelling.len() {
-        if spelling[i] != text[at + i] {
-            return false;
-        }
-        i += 1;
-    }
-    true
+    a == b
 }
 
 fn kind_if(word: &[u8], spelling: &[u8], kind: u32, otherwise: u32) -> u32
     ensures { result ≡ cond (same spelling.now word.now) kind otherwise }
 {
     if same(spelling, word) {
-        return kind;
+        kind
+    } else {
+        otherwise
     }
-    otherwise
 }
 
-// The kind of a word: a keyword's, or Identifier. The keywords are looked through by their first letter.
+// The kind of a word: a keyword's, or Identifier. The keywords are looked through by their first letter: one match on all spellings leaves
+// nearly two hundred goals, one for each byte at which a word can differ from them.
 fn keyword(word: &[u8]) -> u32
     ensures { result ≡ keyword_of word.now }
 {
@@ -175,7 +148,7 @@ fn word(text: &[u8], at: usize) -> Token
     requires { (at < length text.now) × (ident_start (get_or text.now at 0) ≡ true) }
     ensures { result ≡ from at (token_at (drop at text.now)) }
 {
-    if begins_at(text, at, b"hex\"") {
+    if text[at..].starts_with(b"hex\"") {
         return scan::string(text, at + 4, token::LOOSE_HEX_STRING_LITERAL, false);
     }
     let end = scan::ident_end(text, at + 1);
@@ -184,17 +157,14 @@ fn word(text: &[u8], at: usize) -> Token
 }
 
 // Whether a radix prefix with a digit of its own stands here.
+#[tactic(auto, using(std::proofs::lemmas::Bool::Decides::nat_tests, crate::specs::At::prefix_is))]
 fn has_prefix(text: &[u8], at: usize, letter: u8, radix: u32) -> bool
     requires { (at < length text.now) × (0 < letter) }
     ensures { result ≡ classed (eqb 48 ∷ eqb letter ∷ is_digit radix ∷ []) (drop at text.now) }
 {
-    if text[at] != 48 {
-        return false;
-    }
-    if scan::byte_at(text, at + 1) != letter {
-        return false;
-    }
-    scan::is_digit(radix, scan::byte_at(text, at + 2))
+    text[at] == b'0'
+        && scan::byte_at(text, at + 1) == letter
+        && scan::is_digit(radix, scan::byte_at(text, at + 2))
 }
 
 // A number: its radix prefix says which.
@@ -233,116 +203,84 @@ fn slash(text: &[u8], at: usize) -> Token
     requires { (at < length text.now) × (get_or text.now at 0 ≡ 47) × (length text.now ≤ longest_text) }
     ensures { result ≡ from at (token_at (drop at text.now)) }
 {
-    let next = scan::byte_at(text, at + 1);
-    if next == 47 {
-        return scan::line_comment(text, at + 2);
-    }
-    if next == 42 {
-        return scan::block_comment(text, at + 2);
-    }
-    Token {
-        kind: token::SLASH,
-        end: at + 1,
+    match scan::byte_at(text, at + 1) {
+        b'/' => scan::line_comment(text, at + 2),
+        b'*' => scan::block_comment(text, at + 2),
+        _ => Token {
+            kind: token::SLASH,
+            end: at + 1,
+        },
     }
 }
 
-fn pair_if(next: u8, second: u8, kind: u32, otherwise: Spelled) -> Spelled
-    ensures { result ≡ cond (eqb second next) (Spelled.Is kind 2) otherwise }
-{
-    if second == next {
-        return Spelled::Is(kind, 2);
-    }
-    otherwise
-}
-
-// The fixed spelling that is the byte alone.
-fn single(b: u8) -> Spelled
+// The kind of the fixed spelling that is the byte alone.
+fn single(b: u8) -> Option<u32>
     ensures { result ≡ alone_of (with_head b punctuation) }
 {
     match b {
-        b';' => Spelled::Is(token::SEMICOLON, 1),
-        b',' => Spelled::Is(token::COMMA, 1),
-        b':' => Spelled::Is(token::COLON, 1),
-        b'.' => Spelled::Is(token::DOT, 1),
-        b'$' => Spelled::Is(token::DOLLAR, 1),
-        b'{' => Spelled::Is(token::LEFT_CURLY, 1),
-        b'}' => Spelled::Is(token::RIGHT_CURLY, 1),
-        b'(' => Spelled::Is(token::LEFT_ROUND, 1),
-        b')' => Spelled::Is(token::RIGHT_ROUND, 1),
-        b'[' => Spelled::Is(token::LEFT_SQUARE, 1),
-        b']' => Spelled::Is(token::RIGHT_SQUARE, 1),
-        b'=' => Spelled::Is(token::EQUALS, 1),
-        b'+' => Spelled::Is(token::PLUS, 1),
-        b'-' => Spelled::Is(token::MINUS, 1),
-        b'*' => Spelled::Is(token::STAR, 1),
-        b'/' => Spelled::Is(token::SLASH, 1),
-        b'%' => Spelled::Is(token::PERCENT, 1),
-        b'<' => Spelled::Is(token::LESS_THAN, 1),
-        b'>' => Spelled::Is(token::GREATER_THAN, 1),
-        b'!' => Spelled::Is(token::BANG, 1),
-        b'&' => Spelled::Is(token::AMPERSAND, 1),
-        b'|' => Spelled::Is(token::PIPE, 1),
-        b'^' => Spelled::Is(token::CARET, 1),
-        b'~' => Spelled::Is(token::TILDE, 1),
-        _ => Spelled::Nothing,
+        b';' => Some(token::SEMICOLON),
+        b',' => Some(token::COMMA),
+        b':' => Some(token::COLON),
+        b'.' => Some(token::DOT),
+        b'$' => Some(token::DOLLAR),
+        b'{' => Some(token::LEFT_CURLY),
+        b'}' => Some(token::RIGHT_CURLY),
+        b'(' => Some(token::LEFT_ROUND),
+        b')' => Some(token::RIGHT_ROUND),
+        b'[' => Some(token::LEFT_SQUARE),
+        b']' => Some(token::RIGHT_SQUARE),
+        b'=' => Some(token::EQUALS),
+        b'+' => Some(token::PLUS),
+        b'-' => Some(token::MINUS),
+        b'*' => Some(token::STAR),
+        b'/' => Some(token::SLASH),
+        b'%' => Some(token::PERCENT),
+        b'<' => Some(token::LESS_THAN),
+        b'>' => Some(token::GREATER_THAN),
+        b'!' => Some(token::BANG),
+        b'&' => Some(token::AMPERSAND),
+        b'|' => Some(token::PIPE),
+        b'^' => Some(token::CARET),
+        b'~' => Some(token::TILDE),
+        _ => None,
     }
 }
 
-// The fixed spelling that is the byte with the next one, or else another.
-fn double(b: u8, next: u8, otherwise: Spelled) -> Spelled
-    ensures { result ≡ pair_of (with_head b punctuation) next otherwise }
+// The kind of the fixed spelling that is the byte with the next one.
+fn double(b: u8, next: u8) -> Option<u32>
+    ensures { result ≡ pair_of (with_head b punctuation) next }
 {
-    match b {
-        b':' => pair_if(next, b':', token::DOUBLE_COLON, otherwise),
-        b'=' => pair_if(
-            next,
-            b'>',
-            token::FAT_ARROW,
-            pair_if(next, b'=', token::DOUBLE_EQUALS, otherwise),
-        ),
-        b'+' => pair_if(
-            next,
-            b'%',
-            token::PLUS_PERCENT,
-            pair_if(next, b'/', token::PLUS_SLASH, otherwise),
-        ),
-        b'-' => pair_if(
-            next,
-            b'%',
-            token::MINUS_PERCENT,
-            pair_if(next, b'/', token::MINUS_SLASH, otherwise),
-        ),
-        b'*' => pair_if(next, b'%', token::STAR_PERCENT, otherwise),
-        b'<' => {
-            let shift = pair_if(next, b'<', token::SHIFT_LEFT, otherwise);
-            pair_if(
-                next,
-                b'/',
-                token::LESS_SLASH,
-                pair_if(next, b'=', token::LESS_EQUALS, shift),
-            )
-        }
-        b'>' => {
-            let shift = pair_if(next, b'>', token::SHIFT_RIGHT, otherwise);
-            pair_if(
-                next,
-                b'/',
-                token::GREATER_SLASH,
-                pair_if(next, b'=', token::GREATER_EQUALS, shift),
-            )
-        }
-        b'!' => pair_if(next, b'=', token::BANG_EQUALS, otherwise),
-        b'&' => pair_if(next, b'&', token::AMPER_AMPER, otherwise),
-        b'|' => pair_if(next, b'|', token::PIPE_PIPE, otherwise),
-        _ => otherwise,
+    match (b, next) {
+        (b':', b':') => Some(token::DOUBLE_COLON),
+        (b'=', b'>') => Some(token::FAT_ARROW),
+        (b'=', b'=') => Some(token::DOUBLE_EQUALS),
+        (b'+', b'%') => Some(token::PLUS_PERCENT),
+        (b'+', b'/') => Some(token::PLUS_SLASH),
+        (b'-', b'%') => Some(token::MINUS_PERCENT),
+        (b'-', b'/') => Some(token::MINUS_SLASH),
+        (b'*', b'%') => Some(token::STAR_PERCENT),
+        (b'<', b'<') => Some(token::SHIFT_LEFT),
+        (b'<', b'/') => Some(token::LESS_SLASH),
+        (b'<', b'=') => Some(token::LESS_EQUALS),
+        (b'>', b'>') => Some(token::SHIFT_RIGHT),
+        (b'>', b'/') => Some(token::GREATER_SLASH),
+        (b'>', b'=') => Some(token::GREATER_EQUALS),
+        (b'!', b'=') => Some(token::BANG_EQUALS),
+        (b'&', b'&') => Some(token::AMPER_AMPER),
+        (b'|', b'|') => Some(token::PIPE_PIPE),
+        _ => None,
     }
 }
 
-// The fixed spelling that begins with a byte, by the next byte, 0 at the end of the text.
-fn punctuation(b: u8, next: u8) -> Spelled
+// The fixed spelling that begins with a byte, by the next byte, 0 at the end of the text: of two, the longer one.
+fn punctuation(b: u8, next: u8) -> Option<Spelled>
     ensures { match_of result ≡ longest no_match (map rule punctuation) (b ∷ next ∷ []) }
 {
-    double(b, next, single(b))
+    if let Some(kind) = double(b, next) {
+        return Some(Spelled { kind, len: 2 });
+    }
+    let kind = single(b)?;
+    Some(Spelled { kind, len: 1 })
 }
 
 // A fixed spelling, or one character that starts no token.
@@ -353,16 +291,16 @@ fn other(text: &[u8], at: usize) -> Token
     let b = text[at];
     let next = scan::byte_at(text, at + 1);
     match punctuation(b, next) {
-        Spelled::Is(kind, len) => Token {
+        Some(Spelled { kind, len }) => Token {
             kind,
             end: at + len,
         },
-        Spelled::Nothing => match utf8::character_at(text, at) {
-            Character::Is(_, len) => Token {
+        None => match utf8::character_at(text, at) {
+            Some(character) => Token {
                 kind: token::INVALID_CHAR_ERROR,
-                end: at + len,
+                end: at + character.length,
             },
-            Character::Nothing => Token {
+            None => Token {
                 kind: token::INVALID_CHAR_ERROR,
                 end: at + 1,
             },
@@ -389,9 +327,9 @@ fn token_at(text: &[u8], at: usize) -> Token
         };
     }
     match b {
-        34 => scan::string(text, at + 1, token::LOOSE_STRING_LITERAL, true),
-        47 => slash(text, at),
-        64 => at_sign(text, at),
+        b'"' => scan::string(text, at + 1, token::LOOSE_STRING_LITERAL, true),
+        b'/' => slash(text, at),
+        b'@' => at_sign(text, at),
         _ => other(text, at),
     }
 }
@@ -414,8 +352,5 @@ fn token_or_end(text: &[u8], at: usize) -> Token
 pub fn next_token(text: &[u8], at: usize) -> Token
     ensures { result ≡ next_token (take longest_text text.now) at }
 {
-    if LONGEST_TEXT < text.len() {
-        return token_or_end(&text[..LONGEST_TEXT], at);
-    }
-    token_or_end(text, at)
+    token_or_end(&text[..LONGEST_TEXT.min(text.len())], at)
 }

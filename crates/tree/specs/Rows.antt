@@ -8,10 +8,9 @@ use Prim.Native.Nat.{ℕ, suc, ◌+◌, ◌<◌}
 use native.Mathlib.Omega.{arith}
 use Rattle.std.proofs.Math.Nat.{add-zero}
 use Rattle.words.specs.Token
-use Rattle.words.specs.Token.{is_trivia, lex_error}
-use Rattle.words.specs.ErrorToken
-use Rattle.words.specs.declared.token.LexError.{LexError}
-use Rattle.words.specs.declared.token.LexError.TheVariants.{Is, Nothing}
+use Rattle.words.specs.Token.{is_trivia, lex_error, LexError}
+use Rattle.words.specs.declared.error_token.ErrorToken.TheVariants as Case
+use Rattle.std.specs.Prelude.{Some, None}
 use Rattle.words.specs.Words.{token_kind}
 use Rattle.literals.specs.Spelling.{word_at, spelling}
 use Rattle.definition.specs.Quiet.{word-inside}
@@ -35,12 +34,12 @@ no-error clean = tt
 no-error (also c) = tt
 
 -- What is trivia and no error is no part of a row; what is no trivia is a part, but Eof.
-trivia-blank : (k : ℕ) → is_trivia k ≡ true → lex_error k ≡ Nothing → is_blank k ≡ true
+trivia-blank : (k : ℕ) → is_trivia k ≡ true → lex_error k ≡ None → is_blank k ≡ true
 unfolding is_trivia lex_error is_blank
 trivia-blank k = go (eqb k Token.Whitespace) (eqb k Token.LineComment) (eqb k Token.BlockComment) (eqb k Token.InvalidCharError) (eqb k Token.MalformedIdentError) (eqb k Token.UnclosedBlockCommentError) (eqb k Token.AtWithoutIdentError) (eqb k Token.MultilineStringError) (eqb k Token.UnclosedStringError) (eqb k Token.Eof)
   where
     go : (a b c d e f g h i j : Bool) → (a || b || c || d || e || f || g) ≡ true
-        → cond d (Is ErrorToken.InvalidChar) (cond e (Is ErrorToken.MalformedIdent) (cond h (Is ErrorToken.MultilineString) (cond f (Is ErrorToken.UnclosedBlockComment) (cond i (Is ErrorToken.UnclosedString) (cond g (Is ErrorToken.AtWithoutIdent) Nothing))))) ≡ Nothing
+        → cond d (Some Case.InvalidChar) (cond e (Some Case.MalformedIdent) (cond h (Some Case.MultilineString) (cond f (Some Case.UnclosedBlockComment) (cond i (Some Case.UnclosedString) (cond g (Some Case.AtWithoutIdent) None))))) ≡ None
         → (a || b || c || j) ≡ true
     go true b c d e f g h i j t n = refl
     go false true c d e f g h i j t n = refl
@@ -89,10 +88,10 @@ module _ (text tokens : List ℕ) where
       go : (k : ℕ) (t : Bool) (x : LexError) → is_trivia k ≡ t → lex_error k ≡ x → Clean (seen t x i k (seen_from tokens (suc i) (length ws)))
           → (Clean (seen_from tokens (suc i) (length ws)) → row_from text tokens (suc i) ws ≡ lexemes (seen_from tokens (suc i) (length ws)))
           → cond (is_blank k) (row_from text tokens (suc i) ws) (token k (lexeme i) ∷ row_from text tokens (suc i) ws) ≡ lexemes (seen t x i k (seen_from tokens (suc i) (length ws)))
-      go k true Nothing t x c ih = rw (trivia-blank k t x) (ih c)
-      go k true (Is error) t x c ih = absurd (no-error c)
-      go k false Nothing t x (also c) ih = rw (other-blank k t, ih c)
-      go k false (Is error) t x c ih = absurd (no-error c)
+      go k true None t x c ih = rw (trivia-blank k t x) (ih c)
+      go k true (Some error) t x c ih = absurd (no-error c)
+      go k false None t x (also c) ih = rw (other-blank k t, ih c)
+      go k false (Some error) t x c ih = absurd (no-error c)
 
   -- The row of all tokens.
   pub rows_same : Clean (seen_from tokens 0 (length tokens)) → row text tokens ≡ lexemes (seen_from tokens 0 (length tokens))

@@ -9,7 +9,7 @@ use lib.Dec.{ltb}
 use lib.ListN.{drop}
 use Rattle.utf8.specs.Utf8.{Row, follow, sequence_by}
 use Rattle.utf8.specs.Laws.{both, has_in, has-below, has_above}
-use Rattle.utf8.specs.declared.Sequence.TheVariants.{Wrong}
+use Rattle.std.specs.declared.result.Result.TheVariants.{Err}
 use Rattle.utf8.specs.declared.Way.TheVariants.{NoStart}
 
 -- the first ranges of the first `k` rows lie below `x`
@@ -33,7 +33,7 @@ module _ (b : ℕ) (s : List ℕ) where
       let q : row.lead.hi < b = omega (arith, ltb-true row.lead.hi x p.0) in
       rw (has_above row.lead b q) (past x k rows p.1 l)
 
-  before : (x : ℕ) (rows : List Row) → above x rows ≡ true → b ≤ x → sequence_by rows b s ≡ Wrong NoStart
+  before : (x : ℕ) (rows : List Row) → above x rows ≡ true → b ≤ x → sequence_by rows b s ≡ Err NoStart
   unfolding sequence_by
   before x [] h l = refl
   before x (row ∷ rows) h l =
@@ -45,5 +45,5 @@ module _ (b : ℕ) (s : List ℕ) where
   unfolding sequence_by
   in_row k rows row rest e h l m = past row.lead.lo k rows h l ∙ rw (e, has_in row.lead b l m)
 
-  pub no_row : (x y k : ℕ) (rows : List Row) → below x k rows ≡ true → above y (drop k rows) ≡ true → x ≤ b → b ≤ y → sequence_by rows b s ≡ Wrong NoStart
+  pub no_row : (x y k : ℕ) (rows : List Row) → below x k rows ≡ true → above y (drop k rows) ≡ true → x ≤ b → b ≤ y → sequence_by rows b s ≡ Err NoStart
   no_row x y k rows h a l m = past x k rows h l ∙ before y (drop k rows) a m

@@ -5,7 +5,7 @@ use Rattle.std.specs.Int.Bits.{bit_or, or_add_and}
 use Rattle.std.proofs.lemmas.Nat.{and_le_l, and_le_r}
 use Rattle.utf8.specs.Utf8.{has, follow, table, sequence_by, sequence, checked_from}
 use Rattle.utf8.specs.Laws.{checked-right}
-use Rattle.utf8.specs.declared.Sequence.TheVariants.{Right}
+use Rattle.std.specs.declared.result.Result.TheVariants.{Ok}
 
 -- The `n` bytes of a text from `at` on are there, and ASCII.
 pub record Ascii (text : List ℕ) (at n : ℕ) : Type 0 where
@@ -57,7 +57,7 @@ eight text at l h = record { within = l; each = each }
     each (suc (suc (suc (suc (suc (suc (suc zero))))))) g = (four (byte 4) (byte 5) (byte 6) (byte 7) halves.1).3
     each (suc (suc (suc (suc (suc (suc (suc (suc k)))))))) g = absurd (omega arith)
 
-ascii-one : (b : ℕ) (s : List ℕ) → b < 128 → sequence b s ≡ Right 1
+ascii-one : (b : ℕ) (s : List ℕ) → b < 128 → sequence b s ≡ Ok 1
 unfolding sequence_by table has follow
 ascii-one b s h = rw (le-leb 0x00 b (omega arith), le-leb b 0x7F (omega arith)) refl
 

@@ -1,12 +1,11 @@
 -- UTF-8 as RFC 3629 gives it: what a text of bytes begins with, whether it is well-formed, and its characters.
 use Rattle.std.specs.Prelude.{ℕ, zero, suc, ◌+◌, ◌-◌, ◌*◌, ◌%◌, Bool, cond, ◌&&◌, List, [], ◌∷◌, length, take, leb}
+use Rattle.std.specs.Prelude.{Option, Some, None, Result}
+use Rattle.std.specs.declared.result.Result.TheVariants.{Ok, Err}
+use Rattle.utf8.specs.declared.Way.{Way}
 use Rattle.utf8.specs.declared.Way.TheVariants.{NoStart, NotAllowed, Cut}
-use Rattle.utf8.specs.declared.Sequence.{Sequence}
-use Rattle.utf8.specs.declared.Sequence.TheVariants.{Right, Wrong}
-use Rattle.utf8.specs.declared.Checked.{Checked}
-use Rattle.utf8.specs.declared.Checked.TheVariants.{Good, Bad}
+use Rattle.utf8.specs.declared.NotUtf8.{NotUtf8}
 use Rattle.utf8.specs.declared.Character.{Character}
-use Rattle.utf8.specs.declared.Character.TheVariants.{Is, Nothing}
 
 infix 70 ◌‥◌
 infix 55 ◌then◌
@@ -51,15 +50,30 @@ table =
 unfoldable pub has : Range → ℕ → Bool
 has r b = leb r.lo b && leb b r.hi
 
+-- One sequence: right with its length, or wrong.
+abbrev pub Sequence : Type 0
+Sequence = Result ℕ Way
+
+-- A text: well-formed, or how and at which offset its first wrong sequence is.
+abbrev pub Checked : Type 0
+Checked = Result (Unit {0}) NotUtf8
+
+abbrev pub bad : Way → ℕ → Checked
+bad way at = Err (record { way = way; at = at })
+
+-- A character by its code point and its length.
+abbrev pub character : ℕ → ℕ → Character
+character code_point length = record { code_point = code_point; length = length }
+
 -- The bytes `s` held to the ranges, left to right, after `n` bytes that are right.
 unfoldable pub follow : ℕ → List Range → List ℕ → Sequence
-follow n [] s = Right n
-follow n (r ∷ rs) [] = Wrong Cut
-follow n (r ∷ rs) (b ∷ s) = cond (has r b) (follow (suc n) rs s) (Wrong NotAllowed)
+follow n [] s = Ok n
+follow n (r ∷ rs) [] = Err Cut
+follow n (r ∷ rs) (b ∷ s) = cond (has r b) (follow (suc n) rs s) (Err NotAllowed)
 
 -- The sequence that the byte `b` begins, with `s` after it, by the row whose first range has `b`.
 unfoldable pub sequence_by : List Row → ℕ → List ℕ → Sequence
-sequence_by [] b s = Wrong NoStart
+sequence_by [] b s = Err NoStart
 sequence_by (row ∷ rows) b s = cond (has row.lead b) (follow 1 row.more s) (sequence_by rows b s)
 
 abbrev pub sequence : ℕ → List ℕ → Sequence
@@ -68,9 +82,9 @@ sequence = sequence_by table
 -- A text from the offset `at` on, of which `skip` bytes belong to a sequence that is right.
 -- "UTF8-octets = *( UTF8-char )"
 unfoldable pub checked_from : (at skip : ℕ) → List ℕ → Checked
-checked_from at skip [] = Good
+checked_from at skip [] = Ok tt
 checked_from at (suc skip) (b ∷ s) = checked_from (suc at) skip s
-checked_from at zero (b ∷ s) = elim (sequence b s) [ Right n ↦ checked_from (suc at) (n - 1) s | Wrong way ↦ Bad way at ]
+checked_from at zero (b ∷ s) = elim (sequence b s) [ Ok n ↦ checked_from (suc at) (n - 1) s | Err way ↦ bad way at ]
 
 abbrev pub checked : List ℕ → Checked
 checked = checked_from 0 0
@@ -93,6 +107,6 @@ code_point [] = 0
 code_point (b ∷ s) = joined (lead_bits (length s) b) s
 
 -- The character that a text begins with.
-unfoldable pub character_at : List ℕ → Character
-character_at [] = Nothing
-character_at (b ∷ s) = elim (sequence b s) [ Right n ↦ Is (code_point (take n (b ∷ s))) n | Wrong way ↦ Nothing ]
+unfoldable pub character_at : List ℕ → Option Character
+character_at [] = None
+character_at (b ∷ s) = elim (sequence b s) [ Ok n ↦ Some (character (code_point (take n (b ∷ s))) n) | Err way ↦ None ]

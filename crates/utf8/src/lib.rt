@@ -7,97 +7,66 @@ ghost use Rattle.utf8.specs.Rows.{ranges};
 ghost use Rattle.utf8.specs.Ascii.{Ascii};
 
 // How a sequence is wrong: its first byte starts none, a later byte is not allowed there, or the text ends inside it.
-#[derive(Clone, Copy)]
+#[derive(Clone, Copy, Debug, PartialEq, Eq)]
 pub enum Way {
     NoStart,
     NotAllowed,
     Cut,
 }
 
-// A text: well-formed, or how and at which offset its first wrong sequence is.
-#[derive(Clone, Copy)]
-pub enum Checked {
-    Good,
-    Bad(Way, usize),
+// How and at which offset the first wrong sequence of a text is.
+#[derive(Clone, Copy, Debug, PartialEq, Eq)]
+pub struct NotUtf8 {
+    pub way: Way,
+    pub at: usize,
 }
 
-// What stands at an offset: a character, as its code point and its length in bytes.
-#[derive(Clone, Copy)]
-pub enum Character {
-    Is(u32, usize),
-    Nothing,
-}
-
-// One sequence: right with its length, or wrong.
-#[derive(Clone, Copy)]
-enum Sequence {
-    Right(usize),
-    Wrong(Way),
+// A character by its code point, and its length in bytes.
+#[derive(Clone, Copy, Debug, PartialEq, Eq)]
+pub struct Character {
+    pub code_point: u32,
+    pub length: usize,
 }
 
 // The bytes after the first of a sequence of `whole` bytes at `at`: the second from `low` to `high`, the others tails.
-fn following(text: &[u8], at: usize, whole: usize, low: u8, high: u8) -> Sequence
+fn following(text: &[u8], at: usize, whole: usize, low: u8, high: u8) -> Result<usize, Way>
     requires { (at < length text.now) × (1 ≤ whole) }
     ensures { result ≡ follow 1 (ranges (whole - 1) low high) (drop (at + 1) text.now) }
 {
     let mut lo = low;
     let mut hi = high;
-    let mut n: usize = 1;
-    while n < whole {
+    for n in 1..whole {
         if text.len() - at <= n {
-            return Sequence::Wrong(Way::Cut);
+            return Err(Way::Cut);
         }
         let byte = text[at + n];
-        if byte < lo {
-            return Sequence::Wrong(Way::NotAllowed);
-        }
-        if hi < byte {
-            return Sequence::Wrong(Way::NotAllowed);
+        if byte < lo || hi < byte {
+            return Err(Way::NotAllowed);
         }
         lo = 0x80;
         hi = 0xBF;
-        n += 1;
     }
-    Sequence::Right(n)
+    Ok(whole)
 }
 
-// The sequence at `at`, by the rows of the RFC's table.
-fn sequence_at(text: &[u8], at: usize) -> Sequence
+// The sequence at `at`, by the rows of the RFC's table: its length, or how it is wrong.
+fn sequence_at(text: &[u8], at: usize) -> Result<usize, Way>
     requires { at < length text.now }
     ensures { result ≡ sequence (get_or text.now at 0) (drop (at + 1) text.now) }
 {
-    let lead = text[at];
-    if lead <= 0x7F {
-        return Sequence::Right(1);
+    match text[at] {
+        0x00..=0x7F => Ok(1),
+        0x80..=0xC1 => Err(Way::NoStart),
+        0xC2..=0xDF => following(text, at, 2, 0x80, 0xBF),
+        0xE0 => following(text, at, 3, 0xA0, 0xBF),
+        0xE1..=0xEC => following(text, at, 3, 0x80, 0xBF),
+        0xED => following(text, at, 3, 0x80, 0x9F),
+        0xEE..=0xEF => following(text, at, 3, 0x80, 0xBF),
+        0xF0 => following(text, at, 4, 0x90, 0xBF),
+        0xF1..=0xF3 => following(text, at, 4, 0x80, 0xBF),
+        0xF4 => following(text, at, 4, 0x80, 0x8F),
+        _ => Err(Way::NoStart),
     }
-    if lead < 0xC2 {
-        return Sequence::Wrong(Way::NoStart);
-    }
-    if lead <= 0xDF {
-        return following(text, at, 2, 0x80, 0xBF);
-    }
-    if lead == 0xE0 {
-        return following(text, at, 3, 0xA0, 0xBF);
-    }
-    if lead <= 0xEC {
-        return following(text, at, 3, 0x80, 0xBF);
-    }
-    if lead == 0xED {
-        return following(text, at, 3, 0x80, 0x9F);
-    }
-    if lead <= 0xEF {
-        return following(text, at, 3, 0x80, 0xBF);
-    }
-    if lead == 0xF0 {
-        return following(text, at, 4, 0x90, 0xBF);
-    }
-    if lead <= 0xF3 {
-        return following(text, at, 4, 0x80, 0xBF);
-    }
-    if lead == 0xF4 {
-        return following(text, at, 4, 0x80, 0x8F);
-    }
-    Sequence::Wrong(Way::NoStart)
 }
 
 // Whether the eight bytes from `at` on are there, and ASCII: one test for all, as most texts are nothing else.
@@ -114,7 +83,7 @@ fn are_ascii(text: &[u8], at: usize) -> bool
 }
 
 // Whether `text` is well-formed.
-pub fn check(text: &[u8]) -> Checked
+pub fn check(text: &[u8]) -> Result<(), NotUtf8>
     ensures { result ≡ checked text.now }
 {
     let mut at = 0;
@@ -123,12 +92,12 @@ pub fn check(text: &[u8]) -> Checked
             at += 8;
         } else {
             match sequence_at(text, at) {
-                Sequence::Right(n) => at += n,
-                Sequence::Wrong(way) => return Checked::Bad(way, at),
+                Ok(n) => at += n,
+                Err(way) => return Err(NotUtf8 { way, at }),
             }
         }
     }
-    Checked::Good
+    Ok(())
 }
 
 // The bits of `bits` and then the low six of `byte`.
@@ -161,14 +130,17 @@ fn code_point(text: &[u8], at: usize, n: usize) -> u32
 }
 
 // The character at the offset `at`: nothing where no right sequence is there.
-pub fn character_at(text: &[u8], at: usize) -> Character
+pub fn character_at(text: &[u8], at: usize) -> Option<Character>
     ensures { result ≡ character_at (drop at text.now) }
 {
     if text.len() <= at {
-        return Character::Nothing;
+        return None;
     }
-    match sequence_at(text, at) {
-        Sequence::Right(n) => Character::Is(code_point(text, at, n), n),
-        Sequence::Wrong(_) => Character::Nothing,
-    }
+    let Ok(length) = sequence_at(text, at) else {
+        return None;
+    };
+    Some(Character {
+        code_point: code_point(text, at, length),
+        length,
+    })
 }

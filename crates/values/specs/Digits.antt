@@ -1,19 +1,18 @@
 -- What a character counts as a digit, by where it stands.
-use Rattle.std.specs.Prelude.{◌≡◌, refl, ◌⊎◌, Bool, false, true, ◌&&◌, ℕ, ◌+◌, ◌-◌, ◌%◌, ◌≤◌, ◌<◌, leb, ltb}
+use Rattle.std.specs.Prelude.{◌≡◌, refl, ◌⊎◌, Option, Some, None, Bool, false, true, ◌&&◌, ℕ, ◌+◌, ◌-◌, ◌%◌, ◌≤◌, ◌<◌, leb, ltb}
 use Rattle.std.proofs.Common.{inl, inr, ⊎_elim, arith, le-leb, ltb-true, ltb-false}
 use Rattle.std.proofs.Math.Bool.{and-false}
-use Rattle.std.proofs.Math.Option.{Option, none, some}
+use Rattle.std.proofs.Math.Option as Math
+use Rattle.std.proofs.Math.Option.{none, some}
 use Rattle.std.proofs.lemmas.Bool.{lt-leb}
 use Rattle.literals.specs.Numbers.{nibble}
-use Rattle.reading.specs.declared.Maybe.{Maybe}
-use Rattle.reading.specs.declared.Maybe.TheVariants.{Some, None}
 
-abbrev pub option : Maybe → Option ℕ
+abbrev pub option : Option ℕ → Math.Option ℕ
 option (Some n) = some n
 option None = none
 
 -- A number that is there is below a bound.
-abbrev pub Under : ℕ → Maybe → Type 0
+abbrev pub Under : ℕ → Option ℕ → Type 0
 Under bound (Some n) = n < bound
 Under bound None = Unit {0}
 

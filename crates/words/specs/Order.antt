@@ -1,5 +1,5 @@
 -- Kinds and operators are numbered as the Rust declares them. Each list below is in the order of the Rust's declaration, and counts up.
-use Rattle.std.specs.Prelude.{◌≡◌, refl, List, [], ◌∷◌, map, ℕ, zero, suc, ◌^◌, length}
+use Rattle.std.specs.Prelude.{◌≡◌, refl, List, [], ◌∷◌, map, ℕ, zero, suc, ◌^◌, length, Some, option_map}
 use Rattle.words.specs.BinaryOp
 use Rattle.words.specs.ErrorToken
 use Rattle.words.specs.Flag
@@ -8,7 +8,6 @@ use Rattle.words.specs.Refusal
 use Rattle.words.specs.Report
 use Rattle.words.specs.Token
 use Rattle.words.specs.Token.{lex_error}
-use Rattle.words.specs.declared.token.LexError.TheVariants.{Is}
 use Rattle.words.specs.UnaryOp
 
 -- So many numbers, counted up from `n`.
@@ -69,10 +68,10 @@ error-tokens = refl
 
 -- Each error is that of its token.
 error-kinds :
-    map lex_error
+    map (λ kind. option_map ErrorToken.error_number (lex_error kind))
     (Token.InvalidCharError ∷ Token.MalformedIdentError ∷ Token.MultilineStringError ∷ Token.UnclosedBlockCommentError
     ∷ Token.UnclosedStringError ∷ Token.AtWithoutIdentError ∷ [])
-    ≡ map Is (counted 0 6)
+    ≡ map Some (counted 0 6)
 unfolding lex_error
 error-kinds = refl
 

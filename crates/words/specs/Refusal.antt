@@ -1,5 +1,7 @@
 -- The numbers of the refusals, 1 to 10 (01, Refusals, by who can cause them, and W1).
 use Rattle.std.specs.Prelude.{ℕ}
+use Rattle.words.specs.declared.refusal.Refusal.{Refusal}
+use Rattle.words.specs.declared.refusal.Refusal.TheVariants as Case
 
 -- "Refusal 1 keeps a byte that starts no sequence" (01, W1).
 abbrev pub NotUtf8Start : ℕ
@@ -33,3 +35,16 @@ NotUtf8Later = 9
 -- "with 10 where the text ends inside a sequence that was right so far" (01, W1).
 abbrev pub NotUtf8Cut : ℕ
 NotUtf8Cut = 10
+
+-- The number of each case.
+abbrev pub number : Refusal → ℕ
+number Case.NotUtf8Start = NotUtf8Start
+number Case.TooLong = TooLong
+number Case.TooDeep = TooDeep
+number Case.TokensDontFit = TokensDontFit
+number Case.NodesDontFit = NodesDontFit
+number Case.ValuesDontFit = ValuesDontFit
+number Case.ReportsDontFit = ReportsDontFit
+number Case.AlteredNodes = AlteredNodes
+number Case.NotUtf8Later = NotUtf8Later
+number Case.NotUtf8Cut = NotUtf8Cut

@@ -1,8 +1,7 @@
 -- The kinds of a token: "declaration order in `Token` from 0, Eof 81" (01, Words that are lent); `Token` of lexer.rs.
-use Rattle.std.specs.Prelude.{ℕ, Bool, cond, ◌||◌, eqb}
-use Rattle.words.specs.ErrorToken
-use Rattle.words.specs.declared.token.LexError.{LexError}
-use Rattle.words.specs.declared.token.LexError.TheVariants.{Is, Nothing}
+use Rattle.std.specs.Prelude.{ℕ, Bool, cond, ◌||◌, eqb, Option, Some, None}
+use Rattle.words.specs.declared.error_token.ErrorToken.{ErrorToken}
+use Rattle.words.specs.declared.error_token.ErrorToken.TheVariants as Case
 
 abbrev pub Semicolon : ℕ
 Semicolon = 0
@@ -261,13 +260,17 @@ is_trivia kind =
     || eqb kind UnclosedBlockCommentError
     || eqb kind AtWithoutIdentError
 
+-- What a token that is a lexer error was.
+abbrev pub LexError : Type 0
+LexError = Option ErrorToken
+
 -- `Token::lex_error` of lexer.rs, arm by arm.
 unfoldable pub lex_error : ℕ → LexError
 lex_error kind =
-    cond (eqb kind InvalidCharError) (Is ErrorToken.InvalidChar)
-    (cond (eqb kind MalformedIdentError) (Is ErrorToken.MalformedIdent)
-    (cond (eqb kind MultilineStringError) (Is ErrorToken.MultilineString)
-    (cond (eqb kind UnclosedBlockCommentError) (Is ErrorToken.UnclosedBlockComment)
-    (cond (eqb kind UnclosedStringError) (Is ErrorToken.UnclosedString)
-    (cond (eqb kind AtWithoutIdentError) (Is ErrorToken.AtWithoutIdent)
-    Nothing)))))
+    cond (eqb kind InvalidCharError) (Some Case.InvalidChar)
+    (cond (eqb kind MalformedIdentError) (Some Case.MalformedIdent)
+    (cond (eqb kind MultilineStringError) (Some Case.MultilineString)
+    (cond (eqb kind UnclosedBlockCommentError) (Some Case.UnclosedBlockComment)
+    (cond (eqb kind UnclosedStringError) (Some Case.UnclosedString)
+    (cond (eqb kind AtWithoutIdentError) (Some Case.AtWithoutIdent)
+    None)))))

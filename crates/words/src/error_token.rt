@@ -1,13 +1,23 @@
-// What a lexer error was, the detail of a report of kind 1: "order in `ErrorToken` from 0" (01, Words that are lent); `ErrorToken` of lexer.rs.
+// What a lexer error was, by its number the detail of a report of kind 1: "order in `ErrorToken` from 0" (01, Words that are lent);
+// `ErrorToken` of lexer.rs.
 
-pub const INVALID_CHAR: u32 = 0;
+ghost use Rattle.std.specs.Prelude.{◌≡◌};
+ghost use Rattle.words.specs.ErrorToken.{error_number};
 
-pub const MALFORMED_IDENT: u32 = 1;
+#[derive(Clone, Copy, Debug, PartialEq, Eq)]
+pub enum ErrorToken {
+    InvalidChar,
+    MalformedIdent,
+    MultilineString,
+    UnclosedBlockComment,
+    UnclosedString,
+    AtWithoutIdent,
+}
 
-pub const MULTILINE_STRING: u32 = 2;
-
-pub const UNCLOSED_BLOCK_COMMENT: u32 = 3;
-
-pub const UNCLOSED_STRING: u32 = 4;
-
-pub const AT_WITHOUT_IDENT: u32 = 5;
+impl ErrorToken {
+    pub fn number(self) -> u32
+        ensures { result ≡ error_number self }
+    {
+        self as u32
+    }
+}

@@ -18,7 +18,9 @@ pub mod token;
 pub mod unary_op;
 pub mod value;
 
+pub use error_token::ErrorToken;
 pub use node::{NODE_WIDTH, Node};
+pub use refusal::{Refusal, Refused};
 pub use report::{REPORT_WIDTH, Report};
 
 // The bits of each word's low part.

@@ -1,23 +1,52 @@
-// The numbers of the refusals, 1 to 10 (01, Refusals, by who can cause them, and W1).
+// The refusals by their numbers, 1 to 10 (01, Refusals, by who can cause them, and W1).
 
-// The three ways of not being UTF-8: a byte that starts no sequence (1), a later byte that isn't allowed (9), the text cut inside a
+ghost use Rattle.std.specs.Prelude.{◌≡◌};
+ghost use Rattle.words.specs.Refusal.{number};
+
+// Three are ways of not being UTF-8: a byte that starts no sequence (1), a later byte that isn't allowed (9), the text cut inside a
 // sequence (10).
-pub const NOT_UTF8_START: u32 = 1;
+#[derive(Clone, Copy, Debug, PartialEq, Eq)]
+pub enum Refusal {
+    NotUtf8Start = 1,
+    TooLong = 2,
+    TooDeep = 3,
+    TokensDontFit = 4,
+    NodesDontFit = 5,
+    ValuesDontFit = 6,
+    ReportsDontFit = 7,
+    AlteredNodes = 8,
+    NotUtf8Later = 9,
+    NotUtf8Cut = 10,
+}
 
-pub const TOO_LONG: u32 = 2;
+impl Refusal {
+    pub fn number(self) -> u32
+        ensures { result ≡ number self }
+    {
+        self as u32
+    }
 
-pub const TOO_DEEP: u32 = 3;
+    pub fn at(self, place: u32) -> Refused
+        ensures { (result.refusal ≡ self) × (result.place ≡ place) }
+    {
+        Refused {
+            refusal: self,
+            place,
+        }
+    }
+}
 
-pub const TOKENS_DONT_FIT: u32 = 4;
+// "A refusal returns number and place" (01).
+#[derive(Clone, Copy, Debug, PartialEq, Eq)]
+pub struct Refused {
+    pub refusal: Refusal,
+    pub place: u32,
+}
 
-pub const NODES_DONT_FIT: u32 = 5;
-
-pub const VALUES_DONT_FIT: u32 = 6;
-
-pub const REPORTS_DONT_FIT: u32 = 7;
-
-pub const ALTERED_NODES: u32 = 8;
-
-pub const NOT_UTF8_LATER: u32 = 9;
-
-pub const NOT_UTF8_CUT: u32 = 10;
+impl Refused {
+    pub fn number(self) -> u32
+        ensures { result ≡ number self.refusal }
+    {
+        self.refusal.number()
+    }
+}

@@ -3,7 +3,7 @@
 ghost use Rattle.std.specs.Prelude.{◌≡◌};
 ghost use Rattle.words.specs.Token.{is_trivia, lex_error};
 
-use crate::error_token;
+use crate::error_token::ErrorToken;
 
 pub const SEMICOLON: u32 = 0;
 
@@ -169,38 +169,34 @@ pub const UNCLOSED_STRING_ERROR: u32 = 80;
 
 pub const EOF: u32 = 81;
 
-// What a token that is a lexer error was, by its number in `error_token`.
-#[derive(Clone, Copy)]
-pub enum LexError {
-    Is(u32),
-    Nothing,
-}
-
+#[tactic(auto, unfolding(crate::specs::Token::is_trivia))]
 pub fn is_trivia(kind: u32) -> bool
     ensures { result ≡ is_trivia kind }
 {
-    match kind {
-        WHITESPACE => true,
-        LINE_COMMENT => true,
-        BLOCK_COMMENT => true,
-        INVALID_CHAR_ERROR => true,
-        MALFORMED_IDENT_ERROR => true,
-        UNCLOSED_BLOCK_COMMENT_ERROR => true,
-        AT_WITHOUT_IDENT_ERROR => true,
-        _ => false,
-    }
+    matches!(
+        kind,
+        WHITESPACE
+            | LINE_COMMENT
+            | BLOCK_COMMENT
+            | INVALID_CHAR_ERROR
+            | MALFORMED_IDENT_ERROR
+            | UNCLOSED_BLOCK_COMMENT_ERROR
+            | AT_WITHOUT_IDENT_ERROR
+    )
 }
 
-pub fn lex_error(kind: u32) -> LexError
+// What a token that is a lexer error was.
+#[tactic(auto, unfolding(crate::specs::Token::lex_error))]
+pub fn lex_error(kind: u32) -> Option<ErrorToken>
     ensures { result ≡ lex_error kind }
 {
     match kind {
-        INVALID_CHAR_ERROR => LexError::Is(error_token::INVALID_CHAR),
-        MALFORMED_IDENT_ERROR => LexError::Is(error_token::MALFORMED_IDENT),
-        MULTILINE_STRING_ERROR => LexError::Is(error_token::MULTILINE_STRING),
-        UNCLOSED_BLOCK_COMMENT_ERROR => LexError::Is(error_token::UNCLOSED_BLOCK_COMMENT),
-        UNCLOSED_STRING_ERROR => LexError::Is(error_token::UNCLOSED_STRING),
-        AT_WITHOUT_IDENT_ERROR => LexError::Is(error_token::AT_WITHOUT_IDENT),
-        _ => LexError::Nothing,
+        INVALID_CHAR_ERROR => Some(ErrorToken::InvalidChar),
+        MALFORMED_IDENT_ERROR => Some(ErrorToken::MalformedIdent),
+        MULTILINE_STRING_ERROR => Some(ErrorToken::MultilineString),
+        UNCLOSED_BLOCK_COMMENT_ERROR => Some(ErrorToken::UnclosedBlockComment),
+        UNCLOSED_STRING_ERROR => Some(ErrorToken::UnclosedString),
+        AT_WITHOUT_IDENT_ERROR => Some(ErrorToken::AtWithoutIdent),
+        _ => None,
     }
 }

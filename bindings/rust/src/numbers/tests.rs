@@ -23,8 +23,36 @@ fn constants(source: &str) -> Rows {
     source.lines().filter_map(row).collect()
 }
 
+/// `NotUtf8Start` is the name `NOT_UTF8_START`.
+fn constant(case: &str) -> String {
+    let parts = case.char_indices().map(|(i, letter)| {
+        let between = if i > 0 && letter.is_uppercase() { "_" } else { "" };
+        format!("{between}{}", letter.to_uppercase())
+    });
+    parts.collect()
+}
+
+/// The cases of a source's enum, in their order, by the names of constants: `Name = 1,`, or one more than the case before.
+fn cases(source: &str) -> Rows {
+    let Some((_, rest)) = source.split_once("pub enum ") else {
+        return Rows::new();
+    };
+    let body = rest.split("\n}").next().unwrap_or("");
+    let mut next = 0;
+    let row = |line: &str| {
+        let case = line.strip_prefix("    ")?.strip_suffix(',')?;
+        let (name, number) = case.split_once(" = ").unwrap_or((case, ""));
+        let number = number.parse().unwrap_or(next);
+        next = number + 1;
+        Some((constant(name), number))
+    };
+    body.lines().skip(1).filter_map(row).collect()
+}
+
+/// The numbers of a module: its constants, or the cases of its enum.
 fn words(module: &str) -> Rows {
-    constants(&file(&format!("crates/words/src/{module}.rt")))
+    let source = file(&format!("crates/words/src/{module}.rt"));
+    [constants(&source), cases(&source)].concat()
 }
 
 fn without(rows: Rows, name: &str) -> Rows {

@@ -1,21 +1,22 @@
 -- `unary_of` meets its contract.
-use borrow.Author.Tests.{eq-eqb, ne_eqb}
 use Rattle.words.specs.Token
 use Rattle.definition.specs.Expressions.{unary_of}
+use native.Mathlib.Omega.{arith}
+use Rattle.std.proofs.Common.{ne_eqb}
 use Rattle.answers.proofs.unary_of.Goals as goal
 
-pub returns-then-token-eq-MINUS : goal.returns-then-token-eq-MINUS
+pub returns-in-16 : goal.returns-in-16
 unfolding unary_of
-returns-then-token-eq-MINUS c = rw (eq-eqb c.args.token Token.Minus c.if-token-eq-MINUS.true, unary_of)
+returns-in-16 c = rw c.in-16.is
 
-pub returns-then-token-eq-BANG : goal.returns-then-token-eq-BANG
+pub returns-in-32 : goal.returns-in-32
 unfolding unary_of
-returns-then-token-eq-BANG c = rw (ne_eqb c.args.token Token.Minus c.if-token-eq-MINUS.false, eq-eqb c.args.token Token.Bang c.if-token-eq-BANG.true, unary_of)
+returns-in-32 c = rw c.in-32.is
 
-pub returns-then-token-eq-TILDE : goal.returns-then-token-eq-TILDE
+pub returns-in-38 : goal.returns-in-38
 unfolding unary_of
-returns-then-token-eq-TILDE c = rw (ne_eqb c.args.token Token.Minus c.if-token-eq-MINUS.false, ne_eqb c.args.token Token.Bang c.if-token-eq-BANG.false, eq-eqb c.args.token Token.Tilde c.if-token-eq-TILDE.true, unary_of)
+returns-in-38 c = rw c.in-38.is
 
-pub returns : goal.returns
+pub returns-in_default : goal.returns-in_default
 unfolding unary_of
-returns c = rw (ne_eqb c.args.token Token.Minus c.if-token-eq-MINUS.false, ne_eqb c.args.token Token.Bang c.if-token-eq-BANG.false, ne_eqb c.args.token Token.Tilde c.if-token-eq-TILDE.false, unary_of)
+returns-in_default c = rw (ne_eqb c.args.token Token.Minus (λ e. omega arith), ne_eqb c.args.token Token.Bang (λ e. omega arith), ne_eqb c.args.token Token.Tilde (λ e. omega arith), unary_of)

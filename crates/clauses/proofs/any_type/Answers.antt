@@ -7,10 +7,10 @@ use Rattle.cst.specs.Payload.{open-cut}
 use Rattle.names.specs.Names.{intern-is}
 use Rattle.clauses.proofs.any_type.Goals as goal
 
-pub returns-then-named : goal.returns-then-named
+pub returns-then-not-expect : goal.returns-then-not-expect
 unfolding any_type
-returns-then-named c = then position-is (then c.expect-dollar.ensures (then c.expect-named.ensures (when_true c.if-named.true (then intern-is (then (open-cut c.args.s.state.cursor.at Node.ParamAnyType _ c.intern-name.ensures c.open_from-u.ensures) c.close_node.ensures)))))
+returns-then-not-expect c = then position-is (then c.expect.ensures (then c.expect-2.ensures (when_false c.if-not-expect.true c.error_from.ensures)))
 
 pub returns : goal.returns
 unfolding any_type
-returns c = then position-is (then c.expect-dollar.ensures (then c.expect-named.ensures (when_false c.if-named.false c.error_from.ensures)))
+returns c = then position-is (then c.expect.ensures (then c.expect-2.ensures (when_true c.if-not-expect.false (then intern-is (then (open-cut _ Node.ParamAnyType _ c.intern-name.ensures c.open_from-u.ensures) c.close_node.ensures)))))

@@ -7,10 +7,10 @@ use Rattle.stream.specs.Delimited.{regroup}
 use Rattle.answers.specs.Rules.{one-of}
 use Rattle.clauses.proofs.end_expr.Goals as goal
 
-pub returns-then-end : goal.returns-then-end
+pub returns-then-one_of : goal.returns-then-one_of
 unfolding end_expr_turn eof
-returns-then-end c = one-of Token.RightCurly Token.Eof c.one_of-end.ensures (when_true c.if-end.true gives)
+returns-then-one_of c = one-of Token.RightCurly Token.Eof c.one_of.ensures (when_true c.if-one_of.true gives)
 
 pub returns : goal.returns
 unfolding end_expr_turn eof
-returns c = one-of Token.RightCurly Token.Eof c.one_of-end.ensures (when_false c.if-end.false (regroup (then c.missing_semicolon-told.ensures (then c.push_child-more.ensures gives))))
+returns c = one-of Token.RightCurly Token.Eof c.one_of.ensures (when_false c.if-one_of.false (regroup (then c.missing_semicolon.ensures (then c.push_child.ensures gives))))

@@ -5,4 +5,4 @@ use Rattle.clauses.proofs.no_member.Goals as goal
 
 pub returns : goal.returns
 unfolding no_member_turn
-returns c = then c.emit_unexpected-told.ensures (then c.open_here-u.ensures (then c.pass-past.ensures (then c.skip_until_recovery_token-at.ensures (then c.close_node-n.ensures (then c.push_child.ensures gives)))))
+returns c = then c.emit_unexpected.ensures (then c.open_here-u.ensures (then c.pass.ensures (then c.skip_until_recovery_token.ensures (then c.close_node-n.ensures (then c.push_child.ensures gives)))))

@@ -2,8 +2,8 @@
 use Rattle.reading.specs.Does.{gives, when_true, when_false}
 use Rattle.clauses.proofs.note_field.Goals as goal
 
-pub returns-then-not-seen : goal.returns-then-not-seen
-returns-then-not-seen c = when_false c.if-not-seen.true gives
+pub returns-then-seen : goal.returns-then-seen
+returns-then-seen c = when_true c.if-seen.true c.emit_here.ensures
 
-pub returns : goal.returns
-returns c = when_true c.if-not-seen.false c.emit_here.ensures
+pub returns-else-seen : goal.returns-else-seen
+returns-else-seen c = when_false c.if-seen.false gives

@@ -4,14 +4,14 @@ use Rattle.reading.specs.Does.{then, gives, when_true, when_false}
 use Rattle.cst.specs.Laws.{position-is}
 use Rattle.clauses.proofs.parameter_name.Goals as goal
 
-pub returns-then-comptime : goal.returns-then-comptime
+pub returns-then-eat : goal.returns-then-eat
 unfolding parameter_name
-returns-then-comptime c = then position-is (then c.eat-comptime.ensures (when_true c.if-comptime.true c.comptime_parameter.ensures))
+returns-then-eat c = then position-is (then c.eat.ensures (when_true c.if-eat.true c.comptime_parameter.ensures))
 
-pub returns-then-named : goal.returns-then-named
+pub returns-then-eat-2 : goal.returns-then-eat-2
 unfolding parameter_name
-returns-then-named c = then position-is (then c.eat-comptime.ensures (when_false c.if-comptime.false (then c.eat-named.ensures (when_true c.if-named.true c.plain_parameter.ensures))))
+returns-then-eat-2 c = then position-is (then c.eat.ensures (when_false c.if-eat.false (then c.eat-2.ensures (when_true c.if-eat-2.true c.plain_parameter.ensures))))
 
 pub returns : goal.returns
 unfolding parameter_name
-returns c = then position-is (then c.eat-comptime.ensures (when_false c.if-comptime.false (then c.eat-named.ensures (when_false c.if-named.false gives))))
+returns c = then position-is (then c.eat.ensures (when_false c.if-eat.false (then c.eat-2.ensures (when_false c.if-eat-2.false gives))))

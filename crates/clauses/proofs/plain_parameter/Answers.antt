@@ -6,4 +6,4 @@ use Rattle.names.specs.Names.{intern-is}
 use Rattle.clauses.proofs.plain_parameter.Goals as goal
 
 pub returns : goal.returns
-returns c = then c.open_from-u.ensures (then intern-is (then (last-cut Node.Identifier _ c.intern-ident.ensures c.alloc_last_token_as_node-name.ensures) (then c.push_child-u.ensures gives)))
+returns c = then c.open_from-u.ensures (then intern-is (then (last-cut Node.Identifier _ c.intern-ident.ensures c.alloc_last_token_as_node-name.ensures) (then c.push_child.ensures gives)))

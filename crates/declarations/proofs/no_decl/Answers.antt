@@ -5,4 +5,4 @@ use Rattle.declarations.proofs.no_decl.Goals as goal
 
 pub returns : goal.returns
 unfolding no_decl
-returns c = then c.emit_unexpected-told.ensures (then c.skip-past.ensures (then c.open_from-u.ensures c.close_node.ensures))
+returns c = then c.emit_unexpected.ensures (then c.skip.ensures (then c.open_from-u.ensures c.close_node.ensures))

@@ -5,4 +5,4 @@ use Rattle.declarations.proofs.skip_until_decl_start.Goals as goal
 
 pub returns : goal.returns
 unfolding skip_until_decl_start
-returns c = then c.pass-past.ensures c.skip_until_recovery_token.ensures
+returns c = then c.pass.ensures c.skip_until_recovery_token.ensures

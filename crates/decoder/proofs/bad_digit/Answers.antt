@@ -1,14 +1,15 @@
 -- `bad_digit` meets its contract, by case.
-use mathlib.Core.Path.{sym, ◌∙◌}
 use Rattle.decoder.specs.Decodes.{decodes-none}
 use Rattle.decoder.specs.Hex.{bad-already, bad-fine, bad-new}
 use Rattle.decoder.proofs.bad_digit.Goals as goal
+use Rattle.decoder.proofs.bad_digit.Goals.{then-already-via-then-already, then-already-via-else-already+then-not-c}
 
 pub returns-then-already : goal.returns-then-already
-returns-then-already c = rw (bad-already _ _ c.if-already.true) (decodes-none _ _ _ _ _ _ _)
-
-pub returns-then-bad : goal.returns-then-bad
-returns-then-bad c = rw (bad-new _ _ c.if-already.false (sym c.if-bad.true ∙ c.requires.2)) c.step.ensures
+returns-then-already c =
+    elim c.then-already.branch [
+      | then-already-via-then-already w ↦ rw (bad-already _ _ w.if-already.true) (decodes-none _ _ _)
+      | then-already-via-else-already+then-not-c w ↦ rw (bad-fine _ _ _ c.requires.2 w.if-not-c.true) (decodes-none _ _ _)
+    ]
 
 pub returns : goal.returns
-returns c = rw (bad-fine _ _ (sym c.if-bad.false ∙ c.requires.2)) (decodes-none _ _ _ _ _ _ _)
+returns c = rw (bad-new _ _ _ c.requires.2 c.if-already.false c.if-not-c.false) c.step.ensures

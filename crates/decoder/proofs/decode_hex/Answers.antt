@@ -1,14 +1,7 @@
 -- `decode_hex` meets its contract: what stands between the quotes is decoded digit by digit.
 use lib.Dec.{lit<}
 use Rattle.decoder.specs.Inside.{inside-fits, hex-same}
-use native.Mathlib.Omega.{arith}
 use Rattle.decoder.proofs.decode_hex.Goals as goal
-
-pub overflow_add-start : goal.overflow_add-start
-overflow_add-start c = omega (arith, inside-fits _ _ _ 4 _ _ _ c.spelling-source.ensures.0 c.inside-w.ensures c.token_start-start.ensures (lit< tt))
-
-pub overflow_cast-start : goal.overflow_cast-start
-overflow_cast-start c = omega (arith, inside-fits _ _ _ 4 _ _ _ c.spelling-source.ensures.0 c.inside-w.ensures c.token_start-start.ensures (lit< tt))
 
 pub decode_digits-requires : goal.decode_digits-requires
 decode_digits-requires c = inside-fits _ _ _ 4 _ _ _ c.spelling-source.ensures.0 c.inside-w.ensures c.token_start-start.ensures (lit< tt)

@@ -1,33 +1,35 @@
 -- `escape` meets its contract, by case.
-use borrow.Author.Tests.{eq-eqb, ne_eqb}
+use mathlib.Core.Path.{refl}
+use borrow.Author.Tests.{ne_eqb}
 use lib.Dec.{lit<}
+use native.Mathlib.Omega.{arith}
 use Rattle.literals.specs.Strings.{escape}
 use Rattle.decoder.proofs.escape.Goals as goal
 
-pub returns-then-c-eq110 : goal.returns-then-c-eq110
+pub returns-in-110 : goal.returns-in-110
 unfolding escape
-returns-then-c-eq110 c = (rw (eq-eqb _ 110 c.if-c-eq110.true), lit< tt)
+returns-in-110 c = (rw c.in-110.is refl, lit< tt)
 
-pub returns-then-c-eq114 : goal.returns-then-c-eq114
+pub returns-in-114 : goal.returns-in-114
 unfolding escape
-returns-then-c-eq114 c = (rw (ne_eqb _ 110 c.if-c-eq110.false, eq-eqb _ 114 c.if-c-eq114.true), lit< tt)
+returns-in-114 c = (rw c.in-114.is refl, lit< tt)
 
-pub returns-then-c-eq116 : goal.returns-then-c-eq116
+pub returns-in-116 : goal.returns-in-116
 unfolding escape
-returns-then-c-eq116 c = (rw (ne_eqb _ 110 c.if-c-eq110.false, ne_eqb _ 114 c.if-c-eq114.false, eq-eqb _ 116 c.if-c-eq116.true), lit< tt)
+returns-in-116 c = (rw c.in-116.is refl, lit< tt)
 
-pub returns-then-c-eq48 : goal.returns-then-c-eq48
+pub returns-in-48 : goal.returns-in-48
 unfolding escape
-returns-then-c-eq48 c = (rw (ne_eqb _ 110 c.if-c-eq110.false, ne_eqb _ 114 c.if-c-eq114.false, ne_eqb _ 116 c.if-c-eq116.false, eq-eqb _ 48 c.if-c-eq48.true), lit< tt)
+returns-in-48 c = (rw c.in-48.is refl, lit< tt)
 
-pub returns-then-c-eq92 : goal.returns-then-c-eq92
+pub returns-in-92 : goal.returns-in-92
 unfolding escape
-returns-then-c-eq92 c = (rw (ne_eqb _ 110 c.if-c-eq110.false, ne_eqb _ 114 c.if-c-eq114.false, ne_eqb _ 116 c.if-c-eq116.false, ne_eqb _ 48 c.if-c-eq48.false, eq-eqb _ 92 c.if-c-eq92.true), lit< tt)
+returns-in-92 c = (rw c.in-92.is refl, lit< tt)
 
-pub returns-then-c-eq34 : goal.returns-then-c-eq34
+pub returns-in-34 : goal.returns-in-34
 unfolding escape
-returns-then-c-eq34 c = (rw (ne_eqb _ 110 c.if-c-eq110.false, ne_eqb _ 114 c.if-c-eq114.false, ne_eqb _ 116 c.if-c-eq116.false, ne_eqb _ 48 c.if-c-eq48.false, ne_eqb _ 92 c.if-c-eq92.false, eq-eqb _ 34 c.if-c-eq34.true), lit< tt)
+returns-in-34 c = (rw c.in-34.is refl, lit< tt)
 
-pub returns : goal.returns
+pub returns-in_default : goal.returns-in_default
 unfolding escape
-returns c = (rw (ne_eqb _ 110 c.if-c-eq110.false, ne_eqb _ 114 c.if-c-eq114.false, ne_eqb _ 116 c.if-c-eq116.false, ne_eqb _ 48 c.if-c-eq48.false, ne_eqb _ 92 c.if-c-eq92.false, ne_eqb _ 34 c.if-c-eq34.false), tt)
+returns-in_default c = (rw (ne_eqb c.args.c 110 (λ e. omega (arith, e)), ne_eqb c.args.c 114 (λ e. omega (arith, e)), ne_eqb c.args.c 116 (λ e. omega (arith, e)), ne_eqb c.args.c 48 (λ e. omega (arith, e)), ne_eqb c.args.c 92 (λ e. omega (arith, e)), ne_eqb c.args.c 34 (λ e. omega (arith, e))), tt)

@@ -5,9 +5,6 @@ use Rattle.decoder.proofs.escaped.Goals as goal
 pub returns-then-w-j : goal.returns-then-w-j
 returns-then-w-j c = told _ _ _ c.reported.result.event _ _ _ (cut-end _ _ _ c.requires.1 c.if-w-j.true) c.reported.ensures
 
-pub hex_escape-requires : goal.hex_escape-requires
-hex_escape-requires c = (c.requires.0, record { at = c.requires.1; then = rw c.if-code-eq120.true at c.char_at-c.ensures })
-
 pub returns-in-Some : goal.returns-in-Some
 returns-in-Some c = cut-escape _ _ _ c.requires.1 _ _ c.char_at-c.ensures _ (rw c.in-Some.is at c.escape.ensures.0) (rw c.in-Some.is at c.escape.ensures.1)
 

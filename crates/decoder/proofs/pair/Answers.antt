@@ -1,25 +1,14 @@
 -- `pair` meets its contract, by case.
+use mathlib.Core.Path.{refl, ◌∙◌}
 use Rattle.decoder.specs.Hex.{turn_odd, turn-pair}
-use native.Mathlib.Omega.{arith}
 use Rattle.decoder.proofs.pair.Goals as goal
-
-pub bad_digit-first-requires : goal.bad_digit-first-requires
-bad_digit-first-requires c = (omega (arith, c.hex_digit-c.ensures.stands.on), omega (arith, c.hex_digit-c.ensures.stands.within), c.hex_digit-c.ensures.fails _ _)
+use Rattle.decoder.proofs.pair.Goals.{then-already, else-already}
 
 pub returns-then-w-k : goal.returns-then-w-k
-returns-then-w-k c = turn_odd _ _ _ _ _ _ _ _ _ _ _ _ _ _ _ _ c.hex_digit-c.ensures _ _ _ c.bad_digit-first.ensures _ _ _ _ c.if-w-k.true c.step-past.ensures
+returns-then-w-k c = turn_odd _ _ _ _ _ _ _ _ _ _ _ _ c.hex_digit-c.ensures _ _ c.bad_digit-first.ensures _ _ _ c.if-w-k.true c.step.ensures
 
-pub bad_digit-second-requires : goal.bad_digit-second-requires
-bad_digit-second-requires c = (omega (arith, c.hex_digit-c.ensures.stands.within, c.requires.0), omega (arith, c.hex_digit-e.ensures.stands.within, c.requires.0), c.hex_digit-e.ensures.fails _ _)
+pub returns-then-bad : goal.returns-then-bad
+returns-then-bad c = turn-pair _ _ _ _ _ _ _ _ _ _ _ _ c.hex_digit-c.ensures _ _ c.bad_digit-first.ensures _ _ (elim c.if-already.branch [ then-already w ↦ rw w.if-already.true (w.bad-is ∙ w.if-already.true) | else-already w ↦ rw w.if-already.false w.bad-is ]) _ _ _ _ c.hex_digit-e.ensures (rw c.if-bad.true refl) _ _ c.bad_digit-second.ensures _ _ c.step-2.ensures
 
-pub overflow_mul-event : goal.overflow_mul-event
-overflow_mul-event c = omega (arith, c.hex_digit-c.ensures.small)
-
-pub overflow_add-event : goal.overflow_add-event
-overflow_add-event c = omega (arith, c.hex_digit-c.ensures.small, c.hex_digit-e.ensures.small)
-
-pub step-past-requires-2 : goal.step-past-requires-2
-step-past-requires-2 c = omega (arith, c.hex_digit-c.ensures.small, c.hex_digit-e.ensures.small)
-
-pub returns : goal.returns
-returns c = turn-pair _ _ _ _ _ _ _ _ _ _ _ _ _ _ _ _ c.hex_digit-c.ensures _ _ _ c.bad_digit-first.ensures _ _ c.either-bad.ensures _ _ _ _ c.hex_digit-e.ensures c.either-worse.ensures _ _ _ c.bad_digit-second.ensures _ _ _ c.step-past-2.ensures
+pub returns-else-bad : goal.returns-else-bad
+returns-else-bad c = turn-pair _ _ _ _ _ _ _ _ _ _ _ _ c.hex_digit-c.ensures _ _ c.bad_digit-first.ensures _ _ (elim c.if-already.branch [ then-already w ↦ rw w.if-already.true (w.bad-is ∙ w.if-already.true) | else-already w ↦ rw w.if-already.false w.bad-is ]) _ _ _ _ c.hex_digit-e.ensures (rw c.if-bad.false refl) _ _ c.bad_digit-second.ensures _ _ c.step-2.ensures

@@ -3,11 +3,8 @@ use Rattle.decoder.specs.Decodes.{decodes-byte, decodes-report}
 use Rattle.reading.specs.Leaves.{emit-does}
 use Rattle.decoder.proofs.step.Goals as goal
 
-pub push_byte-more-requires : goal.push_byte-more-requires
-push_byte-more-requires c = rw c.in-Byte.is at c.requires
-
 pub returns-in-Byte : goal.returns-in-Byte
-returns-in-Byte c = rw c.in-Byte.is (decodes-byte _ _ _ _ _ _ _ _ _ _ c.push_byte-more.ensures)
+returns-in-Byte c = rw c.in-Byte.is (decodes-byte _ _ _ _ _ _ c.push_byte.ensures)
 
 pub returns-in-Report : goal.returns-in-Report
-returns-in-Report c = rw c.in-Report.is (decodes-report _ _ _ _ _ _ _ _ _ _ _ _ (emit-does c.emit-then.ensures))
+returns-in-Report c = rw c.in-Report.is (decodes-report _ _ _ _ _ _ _ (emit-does c.emit.ensures))

@@ -1,15 +1,15 @@
 -- `string_value` meets its contract, by case.
-use Rattle.decoder.specs.StringValue.{string-stays, string-none, string-full, string-fits}
+use mathlib.Core.Path.{sym, ◌∙◌}
+use Rattle.decoder.specs.StringValue.{rounded, string-none, string-full, string-fits}
 use Rattle.decoder.proofs.string_value.Goals as goal
+use Rattle.decoder.proofs.string_value.Goals.{in_default-via-in-Some+else-at-p, in_default-via-in_default}
 
-pub returns-then-s-ne0 : goal.returns-then-s-ne0
-returns-then-s-ne0 c = string-stays _ _ _ _ _ _ _ _ c.if-s-ne0.true _
+pub returns-in-Some : goal.returns-in-Some
+returns-in-Some c = rw c.past.ensures (string-fits _ _ (sym c.is_refused.ensures ∙ c.if-is_refused.false) _ c.in-Some.is c.if-at-p.true _ c.head.ensures _ (rounded _ _ c.div_ceil.ensures))
 
-pub returns-then-values-at : goal.returns-then-values-at
-returns-then-values-at c = string-none _ _ _ _ _ _ _ _ c.if-s-ne0.false _ c.refuse-full.ensures c.if-values-at.true
-
-pub returns-in-Words : goal.returns-in-Words
-returns-in-Words c = string-fits _ _ _ _ _ _ _ _ c.if-s-ne0.false _ c.in-Words.is c.if-values-at.false _ c.head.ensures _ c.words_of.ensures _ c.past-then.ensures
-
-pub returns-in-DontFit : goal.returns-in-DontFit
-returns-in-DontFit c = string-full _ _ _ _ _ _ _ _ c.if-s-ne0.false _ c.refuse-full.ensures c.in-DontFit.is
+pub returns-in_default : goal.returns-in_default
+returns-in_default c =
+    elim c.in_default.branch [
+      | in_default-via-in-Some+else-at-p w ↦ rw c.refuse.ensures (string-none _ _ (sym c.is_refused.ensures ∙ c.if-is_refused.false) w.if-at-p.false)
+      | in_default-via-in_default w ↦ rw c.refuse.ensures (string-full _ _ (sym c.is_refused.ensures ∙ c.if-is_refused.false) w.in_default.is)
+    ]

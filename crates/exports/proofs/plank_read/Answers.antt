@@ -3,8 +3,8 @@ use mathlib.Core.Path.{refl}
 use Rattle.exports.specs.Told.{told}
 use Rattle.exports.proofs.plank_read.Goals as goal
 
-pub returns-in-Counts : goal.returns-in-Counts
-returns-in-Counts c = told c.read.ensures.0 c.in-Counts.is refl c.put_counts.ensures
+pub returns-in-Ok : goal.returns-in-Ok
+returns-in-Ok c = told c.read.ensures.0 c.in-Ok.is refl c.put_counts.ensures
 
-pub returns-in-Refused : goal.returns-in-Refused
-returns-in-Refused c = told c.read.ensures.0 c.in-Refused.is c.refusal_code.ensures refl
+pub returns-in-Err : goal.returns-in-Err
+returns-in-Err c = told c.read.ensures.0 c.in-Err.is (rw c.number.ensures at c.refusal_code.ensures) refl

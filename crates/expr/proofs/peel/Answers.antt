@@ -1,22 +1,27 @@
--- `peel` meets its contract. The loop's invariant: of `at`, with the turns left, the answer is that of `n`.
-use mathlib.Core.Path.{refl, ◌∙◌}
-use Rattle.expr.specs.Laws.{peel-over, peel-refused, peel-inner, peel-empty, peel-deeper}
+-- `peel` meets its contract: while a turn goes on, it and those that are left after it are the turns that the invariant speaks of.
+use Rattle.std.proofs.Common.{arith}
+use Rattle.std.proofs.lemmas.Bool.Decides.{nat_tests}
+use Rattle.std.specs.Prelude.{suc, ◌-◌}
+use Rattle.looking.specs.View.{and_then, count}
+use Rattle.expr.specs.Expr.{peel}
 use Rattle.expr.proofs.peel.Goals as goal
 
-pub loop-turns-init : goal.loop-turns-init
-loop-turns-init c = refl
+pub returns-in_err-found : goal.returns-in_err-found
+unfolding peel and_then
+returns-in_err-found c = let h = c.loop-turn.invariant (suc (count c.args.nodes.now - c.loop-turn._turn)) (omega arith) in grind (arith, nat_tests, h)
 
-pub returns-in-Altered : goal.returns-in-Altered
-returns-in-Altered c = peel-refused _ _ _ c.loop-turns-test.true _ _ (rw c.in-Altered.is at c.look.ensures) ∙ c.loop-turns.invariant
+pub returns-then-found-ne-PAREN_EXPR : goal.returns-then-found-ne-PAREN_EXPR
+unfolding peel and_then
+returns-then-found-ne-PAREN_EXPR c = let h = c.loop-turn.invariant (suc (count c.args.nodes.now - c.loop-turn._turn)) (omega arith) in grind (arith, nat_tests, h)
 
-pub returns-then-kind-ne-PAREN_EXPR : goal.returns-then-kind-ne-PAREN_EXPR
-returns-then-kind-ne-PAREN_EXPR c = peel-inner _ _ _ (rw c.in-At.is at c.look.ensures) _ c.loop-turns-test.true c.if-kind-ne-PAREN_EXPR.true ∙ c.loop-turns.invariant
-
-pub returns-then-child-eq0 : goal.returns-then-child-eq0
-returns-then-child-eq0 c = peel-empty _ _ _ (rw c.in-At.is at c.look.ensures) c.if-kind-ne-PAREN_EXPR.false _ c.loop-turns-test.true c.if-child-eq0.true ∙ c.loop-turns.invariant
-
-pub loop-turns-preserved : goal.loop-turns-preserved
-loop-turns-preserved c = peel-deeper _ _ _ (rw c.in-At.is at c.look.ensures) c.if-kind-ne-PAREN_EXPR.false _ c.loop-turns-test.true c.if-child-eq0.false ∙ c.loop-turns.invariant
+pub returns-then-found-eq0 : goal.returns-then-found-eq0
+unfolding peel and_then
+returns-then-found-eq0 c = let h = c.loop-turn.invariant (suc (count c.args.nodes.now - c.loop-turn._turn)) (omega arith) in grind (arith, nat_tests, h)
 
 pub returns : goal.returns
-returns c = peel-over _ _ _ c.loop-turns-test.false ∙ c.loop-turns.invariant
+unfolding peel
+returns c = let h = c.loop-turn.invariant 0 (omega arith) in grind (arith, nat_tests, h)
+
+pub loop-turn-preserved : goal.loop-turn-preserved
+unfolding peel and_then
+loop-turn-preserved c = λ t e. let h = c.loop-turn.invariant (suc t) (omega arith) in grind (arith, nat_tests, h)

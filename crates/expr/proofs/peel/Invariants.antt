@@ -1,12 +1,8 @@
--- `peel` meets its contract. The loop's invariant: of `at`, with the turns left, the answer is that of `n`.
-use mathlib.Core.Path.{◌≡◌}
-use Prim.Native.Nat.{◌+◌}
-use Rattle.looking.specs.View.{count}
+-- The loop's invariant of `peel`: of `at`, with the turns that are left, the answer is that of `n`.
+use Rattle.std.specs.Prelude.{◌≡◌, ℕ, ◌+◌}
+use Rattle.looking.specs.View.{turns}
 use Rattle.expr.specs.Expr.{peel}
 use Rattle.expr.proofs.peel.Given as goal
 
-abbrev pub invariant-loop-turns : goal.invariant-loop-turns
-invariant-loop-turns l = peel l.turns l.nodes l.at ≡ peel (count l.nodes + 1) l.nodes l.n
-
-abbrev pub decreases-loop-turns : goal.decreases-loop-turns
-decreases-loop-turns l = l.turns
+abbrev pub invariant-loop-turn : goal.invariant-loop-turn
+invariant-loop-turn l = (t : ℕ) → t + l._turn ≡ turns l.nodes → peel t l.nodes l.at ≡ peel (turns l.nodes) l.nodes l.n

@@ -5,4 +5,4 @@ use Rattle.imports.proofs.glob_import.Goals as goal
 
 pub returns : goal.returns
 unfolding glob_import
-returns c = then (rw c.glob_flags.ensures at c.update_kind-all.ensures) (then c.expect-closed.ensures (then c.close_node-made.ensures gives))
+returns c = then (rw c.glob_flags.ensures at c.update_kind.ensures) (then c.expect.ensures (then c.close_node-made.ensures gives))

@@ -5,4 +5,4 @@ use Rattle.imports.proofs.group_import.Goals as goal
 
 pub returns : goal.returns
 unfolding group_import
-returns c = then (rw c.flag-flags.ensures at c.update_kind-changed.ensures) (then c.parse_import_group-made.ensures gives)
+returns c = then (rw c.flag-flags.ensures at c.update_kind.ensures) (then c.parse_import_group-made.ensures gives)

@@ -5,4 +5,4 @@ use Rattle.imports.proofs.import_as.Goals as goal
 
 pub returns : goal.returns
 unfolding import_as
-returns c = then c.update_kind-changed.ensures (then c.close_node-closed.ensures c.as_decl.ensures)
+returns c = then c.update_kind.ensures (then c.close_node-closed.ensures c.as_decl.ensures)

@@ -2,8 +2,8 @@
 use Rattle.reading.specs.Does.{then, when_true, when_false}
 use Rattle.imports.proofs.import_end.Goals as goal
 
-pub returns-then-ended : goal.returns-then-ended
-returns-then-ended c = then c.eat-ended.ensures (when_true c.if-ended.true c.close_node.ensures)
+pub returns-then-eat : goal.returns-then-eat
+returns-then-eat c = then c.eat.ensures (when_true c.if-eat.true c.close_node.ensures)
 
 pub returns : goal.returns
-returns c = then c.eat-ended.ensures (when_false c.if-ended.false c.import_as.ensures)
+returns c = then c.eat.ensures (when_false c.if-eat.false c.import_as.ensures)

@@ -1,23 +1,16 @@
 -- `import_path` meets its contract: what is left of the loop comes to what the whole loop comes to.
-use borrow.Author.Tests.{not-true, not-false}
-use Rattle.reading.specs.Does.{first-turn, next-turn, last_turn, no-turn-left, refused-turn}
-use native.Mathlib.Omega.{arith}
+use Rattle.std.proofs.lemmas.Bool.{not-true, not-false}
+use Rattle.reading.specs.Turns.{first-turn, next-turn, last_turn, no-turn-left}
 use Rattle.imports.proofs.import_path.Goals as goal
 
-pub loop-left-init : goal.loop-left-init
-loop-left-init c = rw c.turns_of-left.ensures first-turn
+pub loop-turn-init : goal.loop-turn-init
+loop-turn-init c = first-turn
 
-pub returns-then-at-ne0 : goal.returns-then-at-ne0
-returns-then-at-ne0 c = refused-turn c.loop-left.invariant c.if-at-ne0.true
+pub loop-turn-preserved : goal.loop-turn-preserved
+loop-turn-preserved c = next-turn c.loop-turn.invariant c.turns_of-turn-end.ensures c.loop-turn-test.true (rw (not-false c.import_turn-turn.result.on c.if-not-turn.false) at c.import_turn-turn.ensures)
 
-pub loop-left-smaller : goal.loop-left-smaller
-loop-left-smaller c = omega (arith, c.loop-left-test.true)
-
-pub loop-left-preserved : goal.loop-left-preserved
-loop-left-preserved c = next-turn c.loop-left.invariant c.loop-left-test.true (rw (not-false c.import_turn-turn.result.on c.if-not-turn.false) at c.import_turn-turn.ensures)
-
-pub returns-after-loop-left : goal.returns-after-loop-left
-returns-after-loop-left c = no-turn-left c.loop-left.invariant c.loop-left-test.false
+pub returns-after-loop-turn : goal.returns-after-loop-turn
+returns-after-loop-turn c = no-turn-left c.loop-turn.invariant c.turns_of-turn-end.ensures c.loop-turn-test.false
 
 pub returns-then-not-turn : goal.returns-then-not-turn
-returns-then-not-turn c = last_turn c.loop-left.invariant c.loop-left-test.true (rw (not-true c.import_turn-turn.result.on c.if-not-turn.true) at c.import_turn-turn.ensures)
+returns-then-not-turn c = last_turn c.loop-turn.invariant c.turns_of-turn-end.ensures c.loop-turn-test.true (rw (not-true c.import_turn-turn.result.on c.if-not-turn.true) at c.import_turn-turn.ensures)

@@ -3,10 +3,10 @@ use Rattle.definition.specs.Declarations.{import_turn}
 use Rattle.reading.specs.Does.{then, gives, when_true, when_false}
 use Rattle.imports.proofs.import_turn.Goals as goal
 
-pub returns-then-more : goal.returns-then-more
+pub returns-then-eat : goal.returns-then-eat
 unfolding import_turn
-returns-then-more c = then c.eat-more.ensures (when_true c.if-more.true c.import_part.ensures)
+returns-then-eat c = then c.eat.ensures (when_true c.if-eat.true c.import_part.ensures)
 
 pub returns : goal.returns
 unfolding import_turn
-returns c = then c.eat-more.ensures (when_false c.if-more.false gives)
+returns c = then c.eat.ensures (when_false c.if-eat.false gives)

@@ -1,14 +1,11 @@
 -- `in_order` meets its contract: the tokens that were passed end inside, and the names among them rise.
-use mathlib.Core.Path.{refl, ◌∙◌}
+use mathlib.Core.Path.{◌∙◌}
 use mathlib.Core.Bool.{true, and-false}
 use native.Mathlib.Omega.{arith}
 use Rattle.interner.specs.Same.{inside-next, inside-not, inside-over}
 use Rattle.interner.specs.Order.{name-is, rise-over, rise-skip, rise-not, rise-many, rise-next}
 use Rattle.interner.proofs.in_order.Goals as goal
 use Rattle.interner.proofs.in_order.Goals.{then-is_name+else-slot-last+else-i-ge-START, else-is_name}
-
-pub loop-i-init : goal.loop-i-init
-loop-i-init c = (refl, refl)
 
 pub returns-then-n-end : goal.returns-then-n-end
 returns-then-n-end c = rw (c.loop-i.invariant.0 ∙ inside-not _ _ _ c.loop-i-test.true (omega (arith, c.token_end-end.ensures, c.if-n-end.true)))

@@ -1,29 +1,16 @@
 -- `fill_from` meets its contract: the tokens from `at` on, put from `n` on, make the words that all tokens make.
-use Rattle.lexer.specs.Walk.{filling-first, filling-next, filling-last, stepped}
-use Rattle.tokens.specs.Next.{next-inside}
 use native.Mathlib.Omega.{arith}
+use Rattle.lexer.specs.Walk.{filling-next, filling-last, stepped}
 use Rattle.lexer.proofs.fill_from.Goals as goal
 
-pub loop-at-init : goal.loop-at-init
-loop-at-init c = filling-first _ _ _ _ c.requires.1 c.requires.2
-
 pub overflow_cast-end : goal.overflow_cast-end
-overflow_cast-end c = omega (arith, (stepped _ _ _ c.loop-at-test.true (next-inside c.args.text.now _ c.requires.0 _ c.loop-at-test.true c.next_token-t.ensures)).within, c.requires.0)
-
-pub overflow_add-n : goal.overflow_add-n
-overflow_add-n c = omega (arith, c.loop-at.invariant.few, c.loop-at-test.true)
+overflow_cast-end g c = omega (arith, (stepped _ _ _ c.loop-at-test.true (c.requires.tells.right _ _ c.loop-at-test.true c.token_at-t.ensures)).within, c.requires.bounds.0)
 
 pub loop-at-smaller : goal.loop-at-smaller
-loop-at-smaller c = omega (arith, c.loop-at-test.true, (stepped _ _ _ c.loop-at-test.true (next-inside c.args.text.now _ c.requires.0 _ c.loop-at-test.true c.next_token-t.ensures)).on)
+loop-at-smaller g c = omega (arith, c.loop-at-test.true, (stepped _ _ _ c.loop-at-test.true (c.requires.tells.right _ _ c.loop-at-test.true c.token_at-t.ensures)).on)
 
 pub loop-at-preserved : goal.loop-at-preserved
-loop-at-preserved c = filling-next _ _ _ _ _ _ _ c.loop-at.invariant _ _ _ c.loop-at-test.true (next-inside c.args.text.now _ c.requires.0 _ c.loop-at-test.true c.next_token-t.ensures) c.token_word.ensures c.put.ensures
-
-pub overflow_cast-at : goal.overflow_cast-at
-overflow_cast-at c = omega (arith, c.loop-at.invariant.within, c.requires.0)
-
-pub overflow_add-result : goal.overflow_add-result
-overflow_add-result c = omega (arith, c.loop-at.invariant.few, c.loop-at.invariant.within)
+loop-at-preserved g c = filling-next _ _ _ _ _ _ _ c.loop-at.invariant _ _ _ c.loop-at-test.true (c.requires.tells.right _ _ c.loop-at-test.true c.token_at-t.ensures) c.token_word.ensures c.put.ensures
 
 pub returns : goal.returns
-returns c = filling-last _ _ _ _ _ _ _ c.loop-at.invariant _ _ c.loop-at-test.false c.token_word-2.ensures c.put-2.ensures
+returns g c = filling-last _ _ _ _ _ _ _ c.loop-at.invariant _ _ c.loop-at-test.false c.token_word-2.ensures c.put-2.ensures

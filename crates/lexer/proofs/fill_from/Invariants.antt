@@ -5,7 +5,7 @@ use Rattle.lexer.specs.Walk.{Filling}
 use Rattle.lexer.proofs.fill_from.Given as goal
 
 abbrev pub invariant-loop-at : goal.invariant-loop-at
-invariant-loop-at l = Filling l.text l.initial.words l.start l.first l.words l.at l.n
+invariant-loop-at g l = Filling l.text l.initial.words l.start l.first l.words l.at l.n
 
 abbrev pub decreases-loop-at : goal.decreases-loop-at
-decreases-loop-at l = length l.text - l.at
+decreases-loop-at g l = length l.text - l.at

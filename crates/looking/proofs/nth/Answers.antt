@@ -1,31 +1,30 @@
--- `nth` meets its contract. The loop's invariant: from `at` on, with the turns left, the answer is that from `first` on.
-use mathlib.Core.Path.{refl, ◌∙◌}
-use Rattle.looking.specs.Laws.{nth-over, nth-none, nth-refused, nth-stopped, nth-below, nth-above, nth-found, nth-passed}
+-- `nth` meets its contract: while a turn goes on, it and those that are left after it are the turns that the invariant speaks of.
+use Rattle.std.proofs.Common.{arith}
+use Rattle.std.proofs.lemmas.Bool.Decides.{nat_tests}
+use Rattle.std.specs.Prelude.{suc, ◌-◌}
+use Rattle.looking.specs.View.{nth, and_then, count}
 use Rattle.looking.proofs.nth.Goals as goal
 
-pub loop-turns-init : goal.loop-turns-init
-loop-turns-init c = refl
-
 pub returns-then-at-eq0 : goal.returns-then-at-eq0
-returns-then-at-eq0 c = nth-none _ _ _ _ _ _ _ c.if-at-eq0.true ∙ c.loop-turns.invariant
+unfolding nth and_then
+returns-then-at-eq0 c = let h = c.loop-turn.invariant (suc (count c.args.nodes.now - c.loop-turn._turn)) (omega arith) in grind (arith, nat_tests, h)
 
-pub returns-in-Altered : goal.returns-in-Altered
-returns-in-Altered c = nth-refused _ _ _ _ _ _ c.if-at-eq0.false _ c.loop-turns-test.true _ _ (rw c.in-Altered.is at c.look.ensures) ∙ c.loop-turns.invariant
+pub returns-in_err-node : goal.returns-in_err-node
+unfolding nth and_then
+returns-in_err-node c = let h = c.loop-turn.invariant (suc (count c.args.nodes.now - c.loop-turn._turn)) (omega arith) in grind (arith, nat_tests, h)
 
-pub returns-then-kind-stop : goal.returns-then-kind-stop
-returns-then-kind-stop c = nth-stopped _ _ _ _ _ _ c.if-at-eq0.false _ (rw c.in-At.is at c.look.ensures) _ c.loop-turns-test.true c.if-kind-stop.true ∙ c.loop-turns.invariant
-
-pub loop-turns-preserved-then-kind-from : goal.loop-turns-preserved-then-kind-from
-loop-turns-preserved-then-kind-from c = nth-below _ _ _ _ _ _ c.if-at-eq0.false _ (rw c.in-At.is at c.look.ensures) c.if-kind-stop.false _ c.loop-turns-test.true c.if-kind-from.true ∙ c.loop-turns.invariant
-
-pub loop-turns-preserved-then-to-kind : goal.loop-turns-preserved-then-to-kind
-loop-turns-preserved-then-to-kind c = nth-above _ _ _ _ _ _ c.if-at-eq0.false _ (rw c.in-At.is at c.look.ensures) c.if-kind-stop.false c.if-kind-from.false _ c.loop-turns-test.true c.if-to-kind.true ∙ c.loop-turns.invariant
+pub returns-then-node-stop : goal.returns-then-node-stop
+unfolding nth and_then
+returns-then-node-stop c = let h = c.loop-turn.invariant (suc (count c.args.nodes.now - c.loop-turn._turn)) (omega arith) in grind (arith, nat_tests, h)
 
 pub returns-then-left-eq0 : goal.returns-then-left-eq0
-returns-then-left-eq0 c = nth-found _ _ _ _ _ _ c.if-at-eq0.false _ (rw c.in-At.is at c.look.ensures) c.if-kind-stop.false c.if-kind-from.false c.if-to-kind.false _ c.loop-turns-test.true c.if-left-eq0.true ∙ c.loop-turns.invariant
-
-pub loop-turns-preserved : goal.loop-turns-preserved
-loop-turns-preserved c = nth-passed _ _ _ _ _ _ c.if-at-eq0.false _ (rw c.in-At.is at c.look.ensures) c.if-kind-stop.false c.if-kind-from.false c.if-to-kind.false _ c.loop-turns-test.true c.if-left-eq0.false ∙ c.loop-turns.invariant
+unfolding nth and_then
+returns-then-left-eq0 c = let h = c.loop-turn.invariant (suc (count c.args.nodes.now - c.loop-turn._turn)) (omega arith) in grind (arith, nat_tests, h)
 
 pub returns : goal.returns
-returns c = nth-over _ _ _ _ _ _ _ c.loop-turns-test.false ∙ c.loop-turns.invariant
+unfolding nth
+returns c = let h = c.loop-turn.invariant 0 (omega arith) in grind (arith, nat_tests, h)
+
+pub loop-turn-preserved : goal.loop-turn-preserved
+unfolding nth and_then
+loop-turn-preserved c = λ t e. let h = c.loop-turn.invariant (suc t) (omega arith) in grind (arith, nat_tests, h)

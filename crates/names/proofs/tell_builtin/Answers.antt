@@ -9,4 +9,4 @@ pub returns-then-is_marked : goal.returns-then-is_marked
 returns-then-is_marked c = then (marked-is c.is_marked.ensures) (when_false (ap not c.if-is_marked.true) gives)
 
 pub returns : goal.returns
-returns c = then (marked-is c.is_marked.ensures) (when_true (ap not c.if-is_marked.false) (then (here-is c.token_start.ensures c.token_end.ensures) c.emit_and_mark.ensures))
+returns c = then (marked-is c.is_marked.ensures) (when_true (ap not c.if-is_marked.false) (then (here-is c.token_start-start.ensures c.token_end-end.ensures) c.emit_and_mark.ensures))

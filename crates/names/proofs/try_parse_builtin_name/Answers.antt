@@ -6,10 +6,10 @@ use Rattle.cst.specs.Payload.{last-cut}
 use Rattle.names.specs.Names.{intern-is}
 use Rattle.names.proofs.try_parse_builtin_name.Goals as goal
 
-pub returns-then-eaten : goal.returns-then-eaten
+pub returns-then-not-eat : goal.returns-then-not-eat
 unfolding try_parse_builtin_name
-returns-then-eaten c = then c.eat-eaten.ensures (when_true c.if-eaten.true (then intern-is (then (last-cut Node.BuiltinName _ c.intern-ident.ensures c.alloc_last_token_as_node-made.ensures) gives)))
+returns-then-not-eat c = then c.eat.ensures (when_false c.if-not-eat.true gives)
 
 pub returns : goal.returns
 unfolding try_parse_builtin_name
-returns c = then c.eat-eaten.ensures (when_false c.if-eaten.false gives)
+returns c = then c.eat.ensures (when_true c.if-not-eat.false (then intern-is (then (last-cut Node.BuiltinName _ c.intern-ident.ensures c.alloc_last_token_as_node.ensures) gives)))

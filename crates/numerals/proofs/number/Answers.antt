@@ -1,16 +1,10 @@
 -- `number` meets its contract, by case.
-use Rattle.reading.specs.Does.{stays}
-use Rattle.numerals.specs.Number.{radix-is, number-stored, number-refused}
+use mathlib.Core.Path.{sym, ◌∙◌}
+use Rattle.values.specs.Kept.{value-full, value-fits}
 use Rattle.numerals.proofs.number.Goals as goal
 
-pub returns-then-s-ne0 : goal.returns-then-s-ne0
-returns-then-s-ne0 c = stays c.if-s-ne0.true
+pub returns-in-Some : goal.returns-in-Some
+returns-in-Some c = rw c.past.ensures (value-fits _ (sym c.is_refused.ensures ∙ c.if-is_refused.false) _ _ _ c.store_token.ensures _ c.in-Some.is)
 
-pub store-requires : goal.store-requires
-store-requires c = rw c.radix.ensures (radix-is c.args.base)
-
-pub returns-in-Words : goal.returns-in-Words
-returns-in-Words c = number-stored _ _ _ _ _ _ _ _ c.if-s-ne0.false c.args.token c.args.prefix c.args.base _ c.spelling-source.ensures.0 _ c.radix.ensures _ c.store.ensures _ c.in-Words.is _ c.past-then.ensures
-
-pub returns-in-DontFit : goal.returns-in-DontFit
-returns-in-DontFit c = number-refused _ _ _ _ _ _ _ _ c.if-s-ne0.false c.args.token c.args.prefix c.args.base _ c.spelling-source.ensures.0 _ c.radix.ensures _ c.store.ensures c.in-DontFit.is _ c.refuse-full.ensures
+pub returns-in-None : goal.returns-in-None
+returns-in-None c = rw c.refuse.ensures (value-full _ (sym c.is_refused.ensures ∙ c.if-is_refused.false) _ _ _ c.store_token.ensures c.in-None.is)

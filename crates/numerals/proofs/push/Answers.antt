@@ -1,12 +1,7 @@
 -- `push` meets its contract, by case.
 use Rattle.numerals.specs.Numbers.{pushed-same, pushed-full, pushed_more}
-use mathlib.Core.Path.{sym}
-use lib.Seq.{length-take-le}
 use Rattle.std.proofs.Common.{rules}
 use Rattle.numerals.proofs.push.Goals as goal
-
-pub slice_bounds-times-end-2 : goal.slice_bounds-times-end-2
-slice_bounds-times-end-2 c = sym (length-take-le _ _ c.requires)
 
 pub returns-then-carry-eq0 : goal.returns-then-carry-eq0
 returns-then-carry-eq0 c = pushed-same _ _ _ _ c.requires _ _ c.times-carry.ensures c.if-carry-eq0.true

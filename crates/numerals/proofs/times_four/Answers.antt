@@ -1,15 +1,11 @@
 -- `times_four` meets its contract as `times` does: four multiplications are one by a larger unit.
-use lib.ListN.{length-set}
+use native.Mathlib.Omega.{arith}
 use Rattle.numerals.specs.Times.{times-next, times-last}
 use Rattle.numerals.specs.Four.{parted-four}
-use native.Mathlib.Omega.{arith}
 use Rattle.numerals.proofs.times_four.Goals as goal
 
-pub loop-i-smaller : goal.loop-i-smaller
-loop-i-smaller c = simp length-set (omega arith)
-
-pub loop-i-preserved : goal.loop-i-preserved
-loop-i-preserved c = times-next _ _ _ _ _ _ c.loop-i.invariant c.loop-i-test.true _ _ (parted-four _ _ _ _ _ _ _ _ c.limb_times-a.ensures c.limb_times-b.ensures c.limb_times-c.ensures c.limb_times-d.ensures)
+pub loop-limb-preserved : goal.loop-limb-preserved
+loop-limb-preserved c = times-next _ _ _ _ _ _ c.loop-limb.invariant (omega arith) _ _ (parted-four _ _ _ _ _ _ _ _ c.limb_times-a.ensures c.limb_times-b.ensures c.limb_times-c.ensures c.limb_times-d.ensures)
 
 pub returns : goal.returns
-returns c = times-last _ _ _ _ _ _ c.loop-i.invariant c.loop-i-test.false
+returns c = times-last _ _ _ _ _ _ c.loop-limb.invariant (omega arith)

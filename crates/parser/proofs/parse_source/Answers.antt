@@ -1,11 +1,11 @@
 -- `parse_source` meets its contract: reading begins at words that are 0, and what it comes to is the definition's answer.
-use mathlib.Core.Path.{◌∙◌}
-use lib.ListN.{length}
-use Rattle.parser.specs.Answers.{read, refuses}
+use Rattle.std.specs.Prelude.{refl, length}
+use Rattle.std.proofs.Common.{rules}
+use Rattle.parser.specs.Answers.{lent, cleared, read, refuses}
 use Rattle.parser.proofs.parse_source.Goals as goal
 
-pub returns-then-at-ne0 : goal.returns-then-at-ne0
-returns-then-at-ne0 c = λ right. rw (c.clear-then-at-ne0.ensures, c.clear-then-at-ne0-2.ensures, c.clear-then-at-ne0-3.ensures, c.parse_file-file.auto.nodes ∙ c.clear.auto.words, c.parse_file-file.auto.values ∙ c.clear-2.auto.words, c.parse_file-file.auto.reports ∙ c.clear-3.auto.words) (refuses (length c.args.nodes.now) (length c.args.values.now) (length c.args.reports.now) right (rw (c.begin-s.ensures, c.clear.ensures, c.clear-2.ensures, c.clear-3.ensures) at c.parse_file-file.ensures) c.if-at-ne0.true)
+pub returns-in-Some : goal.returns-in-Some
+returns-in-Some c = λ right. lent (cleared c.parse_file.new.p.nodes.now (search rules) c.clear-in-Some.ensures (search rules)) (cleared c.parse_file.new.p.values.now (search rules) c.clear-in-Some-2.ensures (search rules)) (cleared c.parse_file.new.p.reports.now (search rules) c.clear-in-Some-3.ensures (search rules)) (refuses (length c.args.nodes.now) (length c.args.values.now) (length c.args.reports.now) refl c.begin.ensures refl (rw (c.clear.ensures, c.clear-2.ensures, c.clear-3.ensures) refl) c.parse_file.ensures right c.in-Some.is)
 
 pub returns : goal.returns
-returns c = λ right. read (length c.args.nodes.now) (length c.args.values.now) (length c.args.reports.now) right (rw (c.begin-s.ensures, c.clear.ensures, c.clear-2.ensures, c.clear-3.ensures) at c.parse_file-file.ensures) c.if-at-ne0.false
+returns c = λ right. lent (search rules) (search rules) (search rules) (read (length c.args.nodes.now) (length c.args.values.now) (length c.args.reports.now) refl c.begin.ensures refl (rw (c.clear.ensures, c.clear-2.ensures, c.clear-3.ensures) refl) c.parse_file.ensures right c.in_default.is)

@@ -5,4 +5,4 @@ use Rattle.parts.proofs.check_binary_op.Goals as goal
 
 pub returns : goal.returns
 unfolding check_binary_op
-returns c = then c.peek-next.ensures (rw c.binary_of-it.ensures gives)
+returns c = then c.peek.ensures (rw c.binary_of.ensures gives)

@@ -2,10 +2,8 @@
 use mathlib.Core.Path.{sym, ap, ◌∙◌}
 use mathlib.Core.Bool.{not}
 use Rattle.reading.specs.Does.{then, gives, when_true, when_false}
+use Rattle.parts.proofs.no_access_name.Goals.{then-not-contains, else-not-contains}
 use Rattle.parts.proofs.no_access_name.Goals as goal
 
-pub returns-then-contains : goal.returns-then-contains
-returns-then-contains c = then c.emit_unexpected-told.ensures (then c.open_here-u.ensures (then c.peek-next.ensures (then (when_false (ap not (sym c.contains.ensures ∙ c.if-contains.true)) gives) c.close_node.ensures)))
-
 pub returns : goal.returns
-returns c = then c.emit_unexpected-told.ensures (then c.open_here-u.ensures (then c.peek-next.ensures (then (when_true (ap not (sym c.contains.ensures ∙ c.if-contains.false)) c.pass-past.ensures) c.close_node-2.ensures)))
+returns c = then c.emit_unexpected.ensures (then c.open_here-u.ensures (then c.peek.ensures (then (elim c.if-not-contains.branch [ then-not-contains w ↦ rw w.p-is (when_true (ap not (sym c.contains.ensures ∙ w.if-not-contains.true)) w.pass.ensures) | else-not-contains w ↦ rw w.p-is (when_false (ap not (sym c.contains.ensures ∙ w.if-not-contains.false)) gives) ]) c.close_node.ensures)))

@@ -6,4 +6,4 @@ use Rattle.parts.proofs.skip_trivia_start.Goals as goal
 
 pub returns : goal.returns
 unfolding skip_trivia_start
-returns c = then c.peek-next.ensures position-is
+returns c = then c.peek.ensures position-is

@@ -9,4 +9,4 @@ returns-in-Some c = rw c.in-Some.is gives
 
 pub returns-in-None : goal.returns-in-None
 unfolding unwrap_or_error
-returns-in-None c = rw c.in-None.is (then c.emit_unexpected-told.ensures c.error_node.ensures)
+returns-in-None c = rw c.in-None.is (then c.emit_unexpected.ensures c.error_node.ensures)

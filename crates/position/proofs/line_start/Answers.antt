@@ -1,21 +1,9 @@
--- `line_start` meets its contract. The loop's invariant: the line of `start` is that of `at`.
-use mathlib.Core.Path.{◌≡◌, refl, sym, ◌∙◌, ap}
-use Prim.Native.Nat.{◌-◌}
-use native.Mathlib.Omega.{arith}
-use borrow.Author.Tests.{eq-eqb, ne_eqb}
-use Rattle.position.specs.Position.{line_start}
-use Rattle.position.specs.Laws.{start-here, start-before, start_first}
-use Rattle.std.proofs.Common.{rules}
+-- `line_start` meets its contract: the line starts behind the last newline in front.
+use Rattle.position.specs.Laws.{start-some, start-none}
 use Rattle.position.proofs.line_start.Goals as goal
 
-pub loop-start-init : goal.loop-start-init
-loop-start-init c = (search rules, refl)
+pub returns-in-Some : goal.returns-in-Some
+returns-in-Some c = start-some _ _ c.requires _ c.last_newline.ensures _ c.in-Some.is
 
-pub returns-then-text-start-eq-NEWLINE : goal.returns-then-text-start-eq-NEWLINE
-returns-then-text-start-eq-NEWLINE c = sym (start-here c.args.text.now (c.loop-start.start - 1) c.loop-start.start (search rules) (search rules) (eq-eqb _ _ c.if-text-start-eq-NEWLINE.true)) ∙ c.loop-start.invariant.1
-
-pub loop-start-preserved : goal.loop-start-preserved
-loop-start-preserved c = (search rules, sym (start-before c.args.text.now (c.loop-start.start - 1) c.loop-start.start (search rules) (search rules) (ne_eqb _ _ c.if-text-start-eq-NEWLINE.false)) ∙ c.loop-start.invariant.1)
-
-pub returns : goal.returns
-returns c = let z : c.loop-start.start ≡ 0 = omega arith in z ∙ sym (start_first _) ∙ ap (line_start c.args.text.now) (sym z) ∙ c.loop-start.invariant.1
+pub returns-in-None : goal.returns-in-None
+returns-in-None c = start-none _ _ c.requires _ c.last_newline.ensures c.in-None.is

@@ -5,4 +5,4 @@ use Rattle.position.proofs.locate.Goals as goal
 
 pub returns : goal.returns
 unfolding position_of
-returns c = let found = rw (part-whole c.mark_length-mark.result c.args.text.now) at c.locate_in.ensures in rw (← c.mark_length-mark.ensures.0, ← c.offset_behind.ensures) found
+returns c = let found = rw (part-whole c.mark_length-mark.result c.args.text.now) at c.locate_in.ensures in rw (← c.mark_length-mark.ensures.0, ← c.saturating_sub.ensures) found

@@ -1,28 +1,29 @@
--- `locate_in` meets its contract. The loop's invariant: `p` is the position of `at`. The measure is what is left up to the end.
-use mathlib.Core.Path.{sym, ◌∙◌, ap}
-use native.Mathlib.Omega.{arith}
+-- `locate_in` meets its contract. The loop's invariant: `p` is the position of the byte that comes next.
+use Rattle.std.proofs.Common.{◌≡◌, ◌<◌, ◌≤◌, sym, ◌∙◌, ap, length, min, arith, length-take}
+use Rattle.std.proofs.lemmas.List.{get_or-take}
 use Rattle.position.specs.Position.{position_in}
 use Rattle.position.specs.Laws.{position-clip, position_first, position-most, position-next}
-use Rattle.std.proofs.Common.{rules}
 use Rattle.position.proofs.locate_in.Goals as goal
 
-pub loop-at-init : goal.loop-at-init
-loop-at-init c = (search rules, sym (position_first _))
-
-pub bounds-text-at : goal.bounds-text-at
-bounds-text-at c = omega (arith, c.within-end.ensures)
+pub loop-byte-init : goal.loop-byte-init
+loop-byte-init c = sym (position_first _)
 
 pub past-p-requires : goal.past-p-requires
-past-p-requires c = rw c.loop-at.invariant.1 (omega (arith, position-most c.args.text.now c.loop-at.at (omega (arith, c.within-end.ensures))))
+past-p-requires c =
+    let text = c.args.text.now in
+    let h : c.loop-byte.byte-index ≤ length text = omega (arith, length-take c.min.result text) in
+    rw c.loop-byte.invariant (omega (arith, position-most text c.loop-byte.byte-index h))
 
-pub overflow_add-at : goal.overflow_add-at
-overflow_add-at c = omega (arith, c.within-end.ensures)
-
-pub loop-at-smaller : goal.loop-at-smaller
-loop-at-smaller c = omega arith
-
-pub loop-at-preserved : goal.loop-at-preserved
-loop-at-preserved c = (search rules, c.past-p.ensures ∙ rw c.loop-at.invariant.1 (sym (position-next c.args.text.now c.loop-at.at (omega (arith, c.within-end.ensures)))))
+pub loop-byte-preserved : goal.loop-byte-preserved
+loop-byte-preserved c =
+    let text = c.args.text.now in
+    let i = c.loop-byte.byte-index in
+    let here : i < min c.min.result (length text) = omega (arith, length-take c.min.result text) in
+    let e = rw (c.loop-byte.invariant, get_or-take c.min.result text i 0 (omega arith)) at c.past-p.ensures in
+    e ∙ sym (position-next text i (omega arith))
 
 pub returns : goal.returns
-returns c = c.loop-at.invariant.1 ∙ ap (position_in c.args.text.now) (omega (arith, c.within-end.ensures)) ∙ position-clip c.args.text.now c.args.offset
+returns c =
+    let text = c.args.text.now in
+    let e : c.loop-byte.byte-index ≡ min c.args.offset (length text) = omega (arith, length-take c.min.result text) in
+    c.loop-byte.invariant ∙ ap (position_in text) e ∙ position-clip text c.args.offset

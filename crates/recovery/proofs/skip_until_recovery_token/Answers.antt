@@ -1,38 +1,31 @@
--- `skip_until_recovery_token` meets its contract: what is left of the loop comes to what the whole loop comes to; the scan inside it
--- asks whether the token is among the others.
-use mathlib.Core.Path.{sym}
+-- `skip_until_recovery_token` meets its contract: what is left of the loop comes to what the whole loop comes to.
+use mathlib.Core.Path.{sym, ◌∙◌}
 use Rattle.definition.specs.Tokens.{skip_turn, skip_until_recovery_token}
-use Rattle.reading.specs.Does.{then, gives, when_true, when_false, first-turn, next-turn, last_turn, no-turn-left, refused-turn}
-use Rattle.stream.specs.Commands.{contains-next, contains-here, contains-over}
-use native.Mathlib.Omega.{arith}
-use Rattle.std.proofs.Common.{rules}
+use Rattle.reading.specs.Does.{then, gives, when_true, when_false}
+use Rattle.reading.specs.Turns.{first-turn, next-turn, last_turn, no-turn-left, refused-turn}
 use Rattle.recovery.proofs.skip_until_recovery_token.Goals as goal
+use Rattle.recovery.proofs.skip_until_recovery_token.Goals.{then-ended-via-then-ended, then-ended-via-else-ended+then-contains}
 
-pub skip-init : goal.skip-init
-skip-init c = rw c.turns_of-left.ensures first-turn
+pub loop-turn-init : goal.loop-turn-init
+loop-turn-init c = first-turn
 
-pub loop-i-preserved : goal.loop-i-preserved
-loop-i-preserved c = search (rules, contains-next)
-
-pub skip-smaller : goal.skip-smaller
-skip-smaller c = omega (arith, c.skip-test.true)
-
-pub skip-preserved : goal.skip-preserved
+pub loop-turn-preserved : goal.loop-turn-preserved
 unfolding skip_turn
-skip-preserved c = next-turn c.skip.invariant c.skip-test.true (then c.eof-ended.ensures (then c.peek-found.ensures (when_false (rw (c.if-ended.false, sym (contains-over _ _ _ _ c.loop-i-test.false c.loop-i.invariant))) (then c.pass-at.ensures gives))))
+loop-turn-preserved c = next-turn c.loop-turn.invariant c.turns_of-turn-end.ensures c.loop-turn-test.true (then c.eof-ended.ensures (then c.peek-found.ensures (when_false (rw (c.if-ended.false, sym c.contains.ensures ∙ c.if-contains.false)) (then c.pass.ensures gives))))
 
-pub returns-after-skip : goal.returns-after-skip
+pub returns-after-loop-turn : goal.returns-after-loop-turn
 unfolding skip_until_recovery_token
-returns-after-skip c = no-turn-left c.skip.invariant c.skip-test.false
+returns-after-loop-turn c = no-turn-left c.loop-turn.invariant c.turns_of-turn-end.ensures c.loop-turn-test.false
 
-pub returns-then-at-ne0 : goal.returns-then-at-ne0
+pub returns-then-is_refused : goal.returns-then-is_refused
 unfolding skip_until_recovery_token
-returns-then-at-ne0 c = refused-turn c.skip.invariant c.if-at-ne0.true
+returns-then-is_refused c = refused-turn c.loop-turn.invariant (sym c.is_refused.ensures ∙ c.if-is_refused.true)
 
 pub returns-then-ended : goal.returns-then-ended
 unfolding skip_until_recovery_token skip_turn
-returns-then-ended c = last_turn c.skip.invariant c.skip-test.true (then c.eof-ended.ensures (then c.peek-found.ensures (when_true (rw c.if-ended.true) gives)))
-
-pub returns-then-token-recovery : goal.returns-then-token-recovery
-unfolding skip_until_recovery_token skip_turn
-returns-then-token-recovery c = last_turn c.skip.invariant c.skip-test.true (then c.eof-ended.ensures (then c.peek-found.ensures (when_true (rw (c.if-ended.false, sym (contains-here _ _ _ _ c.loop-i-test.true c.if-token-recovery.true c.loop-i.invariant))) gives)))
+returns-then-ended c =
+    last_turn c.loop-turn.invariant c.turns_of-turn-end.ensures c.loop-turn-test.true (then c.eof-ended.ensures (then c.peek-found.ensures
+    (elim c.then-ended.branch [
+      | then-ended-via-then-ended w ↦ when_true (rw w.if-ended.true) gives
+      | then-ended-via-else-ended+then-contains w ↦ when_true (rw (w.if-ended.false, sym w.contains.ensures ∙ w.if-contains.true)) gives
+    ])))

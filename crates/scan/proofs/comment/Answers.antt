@@ -9,8 +9,8 @@ use Rattle.scan.proofs.comment.Goals as goal
 pub loop-nest-init : goal.loop-nest-init
 loop-nest-init c = (refl, omega arith, omega arith)
 
-pub returns-then-text-end : goal.returns-then-text-end
-returns-then-text-end c = search (rules, block-over)
+pub returns-then-text-nest : goal.returns-then-text-nest
+returns-then-text-nest c = search (rules, block-over)
 
 pub loop-nest-smaller : goal.loop-nest-smaller
 loop-nest-smaller c = omega (arith, (step_kept _ _ c.loop-nest.invariant.2 (search rules) (search rules) _ c.step-nest.ensures.0).2)

@@ -1,9 +1,7 @@
--- `kind_at` meets its contract, by case.
-use Rattle.spellings.specs.Names.{kind-past, kind-within}
+-- `kind_at` meets its contract: past the words stands an Eof.
+use Rattle.std.proofs.Common.{sym, ltb-false}
+use Rattle.spellings.specs.Names.{kind-past}
 use Rattle.spellings.proofs.kind_at.Goals as goal
 
-pub returns-then-tokens-i : goal.returns-then-tokens-i
-returns-then-tokens-i c = kind-past c.args.tokens.now _ c.if-tokens-i.true
-
-pub returns : goal.returns
-returns c = kind-within c.args.tokens.now _ _ c.if-tokens-i.false c.token_kind.ensures
+pub returns-in-None : goal.returns-in-None
+returns-in-None c = kind-past c.args.tokens.now c.args.i (ltb-false _ _ (sym c.in-None.ensures.lookup.0))

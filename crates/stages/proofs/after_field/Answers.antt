@@ -3,4 +3,4 @@ use Rattle.reading.specs.Does.{then}
 use Rattle.stages.proofs.after_field.Goals as goal
 
 pub returns : goal.returns
-returns c = then c.push_child-body.ensures c.separate-at.ensures
+returns c = then c.push_child-body.ensures c.separate.ensures

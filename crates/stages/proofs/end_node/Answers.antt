@@ -3,4 +3,4 @@ use Rattle.reading.specs.Does.{then}
 use Rattle.stages.proofs.end_node.Goals as goal
 
 pub returns : goal.returns
-returns c = then c.expect-end.ensures c.close_node.ensures
+returns c = then c.expect.ensures c.close_node.ensures

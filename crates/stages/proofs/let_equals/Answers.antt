@@ -3,4 +3,4 @@ use Rattle.reading.specs.Does.{then, gives}
 use Rattle.stages.proofs.let_equals.Goals as goal
 
 pub returns : goal.returns
-returns c = then c.update_kind-at.ensures (then c.expect-equals.ensures gives)
+returns c = then c.update_kind.ensures (then c.expect.ensures gives)

@@ -3,4 +3,4 @@ use Rattle.reading.specs.Does.{then, gives}
 use Rattle.stages.proofs.open_arms.Goals as goal
 
 pub returns : goal.returns
-returns c = then c.push_child-u.ensures (then c.open_list-list.ensures gives)
+returns c = then c.push_child-outer.ensures (then c.open_list-inner.ensures gives)

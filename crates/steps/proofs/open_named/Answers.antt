@@ -3,4 +3,4 @@ use Rattle.reading.specs.Does.{then, gives}
 use Rattle.steps.proofs.open_named.Goals as goal
 
 pub returns : goal.returns
-returns c = then c.open_here-u.ensures (then c.try_parse_ident-name.ensures (then c.push_option-u.ensures (then c.expect-colon.ensures gives)))
+returns c = then c.open_here-u.ensures (then c.try_parse_ident-name.ensures (then c.push_option-u.ensures (then c.expect.ensures gives)))

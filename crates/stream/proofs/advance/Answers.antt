@@ -1,12 +1,13 @@
--- `advance` meets its contract, by case.
+-- `advance` meets its contract.
+use mathlib.Core.Path.{sym, ◌∙◌}
 use Rattle.stream.specs.Skip.{advance-plain, advance-marked, advance-told}
 use Rattle.stream.proofs.advance.Goals as goal
 
-pub returns-then-is_marked : goal.returns-then-is_marked
-returns-then-is_marked c text ns vs = advance-marked _ _ _ _ _ _ _ _ c.advance.ensures.0 c.move_to-next.ensures c.peek.ensures c.lex_error.ensures _ _ c.in-Is.is c.is_marked.ensures c.if-is_marked.true
+pub returns-then-marked : goal.returns-then-marked
+returns-then-marked c = advance-marked _ _ _ (c.advance-p.ensures.0) c.peek.ensures _ (sym c.lex_error.ensures ∙ c.in-Some.is) (sym c.is_marked-marked.ensures ∙ c.if-marked.true)
 
-pub returns-in-Nothing : goal.returns-in-Nothing
-returns-in-Nothing c text ns vs = advance-plain _ _ _ _ _ _ _ _ c.advance.ensures.0 c.move_to-next.ensures c.peek.ensures c.lex_error.ensures c.in-Nothing.is
+pub returns : goal.returns
+returns c = advance-told _ _ _ c.advance-p.ensures.0 c.peek.ensures _ _ _ _ (sym c.lex_error.ensures ∙ c.in-Some.is) (sym c.is_marked-marked.ensures ∙ c.if-marked.false) c.token_start.ensures c.token_end.ensures (rw c.number.ensures at c.emit.ensures)
 
-pub returns-else-is_marked : goal.returns-else-is_marked
-returns-else-is_marked c text ns vs = advance-told _ _ _ _ _ _ _ _ c.advance.ensures.0 c.move_to-next.ensures c.peek.ensures c.lex_error.ensures _ _ _ _ _ _ c.in-Is.is c.is_marked.ensures c.if-is_marked.false c.token_start.ensures c.token_end.ensures (c.tell.ensures ns vs)
+pub returns-in_default : goal.returns-in_default
+returns-in_default c = advance-plain _ _ _ c.advance-p.ensures.0 c.peek.ensures (sym c.lex_error.ensures ∙ c.in_default.is)

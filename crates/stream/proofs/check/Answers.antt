@@ -5,4 +5,4 @@ use Rattle.stream.proofs.check.Goals as goal
 
 pub returns : goal.returns
 unfolding check
-returns c = then c.peek-found.ensures gives
+returns c = then c.peek.ensures gives

@@ -1,13 +1,18 @@
--- `contains` meets its contract: from `i` on the list holds the token where the whole list does.
-use Rattle.stream.specs.Commands.{contains-next, contains-here, contains-over}
-use Rattle.std.proofs.Common.{rules}
+-- `contains` meets its contract: the library's test of a list asks the same of each of its tokens.
+use Rattle.std.specs.Prelude.{◌≡◌, refl, List, [], ◌∷◌, ℕ, eqb, nat_eq}
+use Rattle.std.specs.List.{list_any}
+use Rattle.std.proofs.Common.{◌∙◌, arith}
+use Rattle.std.proofs.lemmas.Bool.Decides.{nat_tests}
+use Rattle.definition.specs.Tokens.{contains}
 use Rattle.stream.proofs.contains.Goals as goal
 
-pub returns-then-token-list : goal.returns-then-token-list
-returns-then-token-list c = search (rules, contains-here)
+swapped : (a b : ℕ) → nat_eq a b ≡ eqb b a
+swapped a b = grind (arith, nat_tests)
 
-pub loop-i-preserved : goal.loop-i-preserved
-loop-i-preserved c = search (rules, contains-next)
+same : (list : List ℕ) (token : ℕ) → list_any (λ t. nat_eq t token) list ≡ contains list token
+unfolding contains
+same [] token = refl
+same (t ∷ ts) token = rw (swapped t token, same ts token) refl
 
 pub returns : goal.returns
-returns c = search (rules, contains-over)
+returns c = c.contains.ensures.value ∙ same c.args.list.now c.args.token

@@ -5,10 +5,10 @@ use Rattle.definition.specs.Tokens.{expect}
 use Rattle.reading.specs.Does.{then, gives, when_true, when_false}
 use Rattle.stream.proofs.expect.Goals as goal
 
-pub returns-then-is : goal.returns-then-is
+pub returns-then-not-eaten : goal.returns-then-not-eaten
 unfolding expect
-returns-then-is c = then c.eat-eaten.ensures (then (when_false (ap not c.if-is.true) gives) gives)
+returns-then-not-eaten c = then c.eat-eaten.ensures (then (when_true (ap not c.if-not-eaten.true) c.emit_unexpected.ensures) gives)
 
-pub returns : goal.returns
+pub returns-else-not-eaten : goal.returns-else-not-eaten
 unfolding expect
-returns c = then c.eat-eaten.ensures (then (when_true (ap not c.if-is.false) c.emit_unexpected-told.ensures) gives)
+returns-else-not-eaten c = then c.eat-eaten.ensures (then (when_false (ap not c.if-not-eaten.false) gives) gives)

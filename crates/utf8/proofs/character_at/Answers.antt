@@ -12,10 +12,10 @@ unfolding character_at
 returns-then-text-at c = sym (ap character_at (drop_of_length-le c.args.text.now c.if-text-at.true))
 
 pub code_point-requires : goal.code_point-requires
-code_point-requires c = let f = fits c.args.text.now c.args.at c.if-text-at.false c.in-Right.n (sym c.sequence_at.ensures ∙ c.in-Right.is) in (f.within, f.some, f.four)
+code_point-requires c = let f = fits c.args.text.now c.args.at c.if-text-at.false c.in-Ok.length (sym c.sequence_at.ensures ∙ c.in-Ok.is) in (f.within, f.some, f.four)
 
-pub returns-in-Right : goal.returns-in-Right
-returns-in-Right c = rw c.code_point.ensures (sym (look-right _ _ c.if-text-at.false _ (sym c.sequence_at.ensures ∙ c.in-Right.is)))
+pub returns-in_default : goal.returns-in_default
+returns-in_default c = sym (look-wrong _ _ c.if-text-at.false _ (sym c.sequence_at.ensures ∙ c.in_default.is))
 
-pub returns-in-Wrong : goal.returns-in-Wrong
-returns-in-Wrong c = sym (look-wrong _ _ c.if-text-at.false _ (sym c.sequence_at.ensures ∙ c.in-Wrong.is))
+pub returns : goal.returns
+returns c = rw c.code_point.ensures (sym (look-right _ _ c.if-text-at.false _ (sym c.sequence_at.ensures ∙ c.in-Ok.is)))

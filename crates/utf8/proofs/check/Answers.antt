@@ -1,6 +1,5 @@
 -- `utf8::check` meets its contract. The loop's invariant: what the text from `at` on is found to be is what the whole text is.
 use mathlib.Core.Path.{refl, sym, ◌∙◌}
-use Prim.Native.Nat.{◌-◌}
 use native.Mathlib.Omega.{arith}
 use lib.ListN.{drop_of_length-le}
 use Rattle.utf8.specs.Utf8.{checked_from}
@@ -20,17 +19,17 @@ loop-at-smaller-then-are_ascii c = let l = (c.are_ascii.ensures c.if-are_ascii.t
 pub loop-at-preserved-then-are_ascii : goal.loop-at-preserved-then-are_ascii
 loop-at-preserved-then-are_ascii c = let a = c.are_ascii.ensures c.if-are_ascii.true in (a.within, sym (ascii-passed _ _ 8 a) ∙ c.loop-at.invariant.1)
 
-pub overflow_add-at-in-Right : goal.overflow_add-at-in-Right
-overflow_add-at-in-Right c = let arm : Fits c.args.text.now c.loop-at.at c.in-Right.n = fits _ _ c.loop-at-test.true _ (sym c.sequence_at.ensures ∙ c.in-Right.is) in omega (arith, arm)
+pub overflow_add-at-in-Ok : goal.overflow_add-at-in-Ok
+overflow_add-at-in-Ok c = let arm : Fits c.args.text.now c.loop-at.at c.in-Ok.n = fits _ _ c.loop-at-test.true _ (sym c.sequence_at.ensures ∙ c.in-Ok.is) in omega (arith, arm)
 
 pub loop-at-smaller : goal.loop-at-smaller
-loop-at-smaller c = let arm : Fits c.args.text.now c.loop-at.at c.in-Right.n = fits _ _ c.loop-at-test.true _ (sym c.sequence_at.ensures ∙ c.in-Right.is) in omega (arith, arm)
+loop-at-smaller c = let arm : Fits c.args.text.now c.loop-at.at c.in-Ok.n = fits _ _ c.loop-at-test.true _ (sym c.sequence_at.ensures ∙ c.in-Ok.is) in omega (arith, arm)
 
 pub loop-at-preserved : goal.loop-at-preserved
-loop-at-preserved c = let arm : Fits c.args.text.now c.loop-at.at c.in-Right.n = fits _ _ c.loop-at-test.true _ (sym c.sequence_at.ensures ∙ c.in-Right.is) in let w = walk-right c.args.text.now c.loop-at.at c.loop-at-test.true c.in-Right.n (sym c.sequence_at.ensures ∙ c.in-Right.is) in ((arm).within, sym w ∙ c.loop-at.invariant.1)
+loop-at-preserved c = let arm : Fits c.args.text.now c.loop-at.at c.in-Ok.n = fits _ _ c.loop-at-test.true _ (sym c.sequence_at.ensures ∙ c.in-Ok.is) in let w = walk-right c.args.text.now c.loop-at.at c.loop-at-test.true c.in-Ok.n (sym c.sequence_at.ensures ∙ c.in-Ok.is) in ((arm).within, sym w ∙ c.loop-at.invariant.1)
 
-pub returns-in-Wrong : goal.returns-in-Wrong
-returns-in-Wrong c = let w = walk-wrong c.args.text.now c.loop-at.at c.loop-at-test.true c.in-Wrong.way (sym c.sequence_at.ensures ∙ c.in-Wrong.is) in sym w ∙ c.loop-at.invariant.1
+pub returns-in-Err : goal.returns-in-Err
+returns-in-Err c = let w = walk-wrong c.args.text.now c.loop-at.at c.loop-at-test.true c.in-Err.way (sym c.sequence_at.ensures ∙ c.in-Err.is) in sym w ∙ c.loop-at.invariant.1
 
 pub returns : goal.returns
 unfolding checked_from

@@ -1,13 +1,7 @@
 -- `utf8::following` meets its contract. The loop's invariant: what is left to hold to ranges gives the whole answer.
-use Prim.Native.Nat.{◌-◌}
 use mathlib.Core.Path.{◌≡◌}
 use Rattle.utf8.proofs.Follow.{state}
 use Rattle.utf8.proofs.following.Given as goal
 
--- `utf8::following` meets its contract. The loop's invariant: what is left to hold to ranges gives the whole answer.
--- The measure is the number of bytes left. Assumes nothing.
 abbrev pub invariant-loop-n : goal.invariant-loop-n
 invariant-loop-n l = state l.text l.at l.whole l.n l.lo l.hi ≡ state l.text l.at l.whole 1 l.low l.high
-
-abbrev pub decreases-loop-n : goal.decreases-loop-n
-decreases-loop-n l = l.whole - l.n

@@ -1,22 +1,27 @@
--- `enclosing_declaration` meets its contract. The loop's invariant: from `at` up, with the turns left, the answer is that from `n` up.
-use mathlib.Core.Path.{refl, ◌∙◌}
-use Rattle.walking.specs.Laws.{enclosing-over, enclosing-none, enclosing-refused, enclosing-found, enclosing-up}
+-- `enclosing_declaration` meets its contract: while a turn goes on, it and those that are left after it are the turns that the invariant speaks of.
+use Rattle.std.proofs.Common.{arith}
+use Rattle.std.proofs.lemmas.Bool.Decides.{nat_tests}
+use Rattle.std.specs.Prelude.{suc, ◌-◌}
+use Rattle.looking.specs.View.{and_then, count}
+use Rattle.walking.specs.Walks.{enclosing}
 use Rattle.walking.proofs.enclosing_declaration.Goals as goal
 
-pub loop-turns-init : goal.loop-turns-init
-loop-turns-init c = refl
+pub returns-in_err-parent : goal.returns-in_err-parent
+unfolding enclosing and_then
+returns-in_err-parent c = let h = c.loop-turn.invariant (suc (count c.args.nodes.now - c.loop-turn._turn)) (omega arith) in grind (arith, nat_tests, h)
 
 pub returns-in-None : goal.returns-in-None
-returns-in-None c = enclosing-none _ _ _ c.loop-turns-test.true (rw c.in-None.is at c.parent.ensures) ∙ c.loop-turns.invariant
+unfolding enclosing and_then
+returns-in-None c = let h = c.loop-turn.invariant (suc (count c.args.nodes.now - c.loop-turn._turn)) (omega arith) in grind (arith, nat_tests, h)
 
-pub returns-in-Refused : goal.returns-in-Refused
-returns-in-Refused c = enclosing-refused _ _ _ c.loop-turns-test.true _ _ (rw c.in-Refused.is at c.parent.ensures) ∙ c.loop-turns.invariant
-
-pub returns-then-above-eq0 : goal.returns-then-above-eq0
-returns-then-above-eq0 c = enclosing-found _ _ _ (rw c.in-Is.is at c.parent.ensures) _ c.loop-turns-test.true c.if-above-eq0.true ∙ c.loop-turns.invariant
-
-pub loop-turns-preserved : goal.loop-turns-preserved
-loop-turns-preserved c = enclosing-up _ _ _ (rw c.in-Is.is at c.parent.ensures) _ c.loop-turns-test.true c.if-above-eq0.false ∙ c.loop-turns.invariant
+pub returns-in-Some-eq0 : goal.returns-in-Some-eq0
+unfolding enclosing and_then
+returns-in-Some-eq0 c = let h = c.loop-turn.invariant (suc (count c.args.nodes.now - c.loop-turn._turn)) (omega arith) in grind (arith, nat_tests, h)
 
 pub returns : goal.returns
-returns c = enclosing-over _ _ _ c.loop-turns-test.false ∙ c.loop-turns.invariant
+unfolding enclosing
+returns c = let h = c.loop-turn.invariant 0 (omega arith) in grind (arith, nat_tests, h)
+
+pub loop-turn-preserved : goal.loop-turn-preserved
+unfolding enclosing and_then
+loop-turn-preserved c = λ k e. let h = c.loop-turn.invariant (suc k) (omega arith) in grind (arith, nat_tests, h)

@@ -1,12 +1,8 @@
--- `enclosing_declaration` meets its contract. The loop's invariant: from `at` up, with the turns left, the answer is that from `n` up.
-use mathlib.Core.Path.{◌≡◌}
-use Prim.Native.Nat.{◌+◌}
-use Rattle.looking.specs.View.{count}
+-- The loop's invariant of `enclosing_declaration`: from `at` up, with the turns that are left, the answer is that from `n` up.
+use Rattle.std.specs.Prelude.{◌≡◌, ℕ, ◌+◌}
+use Rattle.looking.specs.View.{turns}
 use Rattle.walking.specs.Walks.{enclosing}
 use Rattle.walking.proofs.enclosing_declaration.Given as goal
 
-abbrev pub invariant-loop-turns : goal.invariant-loop-turns
-invariant-loop-turns l = enclosing l.turns l.nodes l.at ≡ enclosing (count l.nodes + 1) l.nodes l.n
-
-abbrev pub decreases-loop-turns : goal.decreases-loop-turns
-decreases-loop-turns l = l.turns
+abbrev pub invariant-loop-turn : goal.invariant-loop-turn
+invariant-loop-turn l = (k : ℕ) → k + l._turn ≡ turns l.nodes → enclosing k l.nodes l.at ≡ enclosing (turns l.nodes) l.nodes l.n

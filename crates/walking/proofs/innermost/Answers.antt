@@ -1,22 +1,23 @@
--- `innermost` meets its contract. The loop's invariant: from `at` on, with `outer` and the turns left, the answer is that from `first` on.
-use mathlib.Core.Path.{refl, sym, ◌∙◌}
-use Rattle.walking.specs.Laws.{innermost-last, innermost-over, innermost-refused, innermost-under, innermost_past}
+-- `innermost` meets its contract: while a turn goes on, it and those that are left after it are the turns that the invariant speaks of.
+use Rattle.std.proofs.Common.{arith}
+use Rattle.std.proofs.lemmas.Bool.Decides.{nat_tests}
+use Rattle.std.specs.Prelude.{suc, ◌-◌}
+use Rattle.looking.specs.View.{and_then, count}
+use Rattle.walking.specs.Walks.{innermost}
 use Rattle.walking.proofs.innermost.Goals as goal
 
-pub loop-at-init : goal.loop-at-init
-loop-at-init c = refl
+pub returns-then-at-eq0 : goal.returns-then-at-eq0
+unfolding innermost and_then
+returns-then-at-eq0 c = let h = c.loop-turn.invariant (suc (count c.args.nodes.now - c.loop-turn._turn)) (omega arith) in grind (arith, nat_tests, h)
 
-pub returns-then-turns-eq0 : goal.returns-then-turns-eq0
-returns-then-turns-eq0 c = innermost-over _ _ _ _ c.loop-at-test.true _ c.if-turns-eq0.true ∙ c.loop-at.invariant
-
-pub returns-in-Altered : goal.returns-in-Altered
-returns-in-Altered c = innermost-refused _ _ _ _ c.loop-at-test.true _ c.if-turns-eq0.false _ _ (rw c.in-Altered.is at c.look.ensures) ∙ c.loop-at.invariant
-
-pub loop-at-preserved-then-covers : goal.loop-at-preserved-then-covers
-loop-at-preserved-then-covers c = innermost-under _ _ _ _ c.loop-at-test.true _ (rw c.in-At.is at c.look.ensures) _ c.if-turns-eq0.false (sym c.covers.ensures ∙ c.if-covers.true) ∙ c.loop-at.invariant
-
-pub loop-at-preserved : goal.loop-at-preserved
-loop-at-preserved c = innermost_past _ _ _ _ c.loop-at-test.true _ (rw c.in-At.is at c.look.ensures) _ c.if-turns-eq0.false (sym c.covers.ensures ∙ c.if-covers.false) ∙ c.loop-at.invariant
+pub returns-in_err-node : goal.returns-in_err-node
+unfolding innermost and_then
+returns-in_err-node c = let h = c.loop-turn.invariant (suc (count c.args.nodes.now - c.loop-turn._turn)) (omega arith) in grind (arith, nat_tests, h)
 
 pub returns : goal.returns
-returns c = innermost-last _ _ _ _ _ c.loop-at-test.false ∙ c.loop-at.invariant
+unfolding innermost
+returns c = let h = c.loop-turn.invariant 0 (omega arith) in grind (arith, nat_tests, h)
+
+pub loop-turn-preserved : goal.loop-turn-preserved
+unfolding innermost and_then
+loop-turn-preserved c = λ k e. let h = c.loop-turn.invariant (suc k) (omega arith) in grind (arith, nat_tests, h)

@@ -1,8 +1,5 @@
-use Rattle.std.proofs.Common.{◌-◌, ◌≤◌}
+use Rattle.std.proofs.Common.{◌≤◌}
 use Rattle.cases.proofs.lexed.replay.Given as goal
 
 abbrev pub invariant-loop-n : goal.invariant-loop-n
-invariant-loop-n g l = (l.n ≤ l.records) × (l.differences ≤ l.n)
-
-abbrev pub decreases-loop-n : goal.decreases-loop-n
-decreases-loop-n g l = l.records - l.n
+invariant-loop-n g l = goal.F-IsAlwaysCallable g l.turn × (l.differences ≤ l.n)

@@ -5,4 +5,4 @@ use Rattle.stream.specs.Delimited.{list-within}
 use Rattle.imports.proofs.group.braced_items.Goals as goal
 
 pub returns : goal.returns
-returns c = list-within Token.LeftCurly Token.RightCurly Token.Comma group_item _ c.expect-opened.ensures c.group_items-items.ensures c.expect-closed.ensures
+returns c = list-within Token.LeftCurly Token.RightCurly Token.Comma group_item _ c.expect.ensures c.group_items-items.ensures c.expect-2.ensures

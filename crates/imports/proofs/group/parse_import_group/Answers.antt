@@ -7,4 +7,4 @@ use Rattle.imports.proofs.group.parse_import_group.Goals as goal
 
 pub returns : goal.returns
 unfolding parse_import_group
-returns c = then c.peek-brace.ensures (then (here-is c.token_start-start.ensures c.token_end-end.ensures) (then c.braced_items-items.ensures (regroup (then c.tell_count-told.ensures (then c.expect-closed.ensures c.close_node.ensures)))))
+returns c = then c.peek.ensures (then (here-is c.token_start-start.ensures c.token_end-end.ensures) (then c.braced_items-items.ensures (regroup (then c.tell_count.ensures (then c.expect.ensures c.close_node.ensures)))))

@@ -1,16 +1,16 @@
 -- `path_turn` meets its contract.
 use Rattle.definition.specs.Declarations.{path_turn}
 use Rattle.reading.specs.Does.{then, gives, when_true, when_false}
+use Rattle.imports.proofs.group.path_turn.Goals.{else-eat-via-then-eat+else-check, else-eat-via-else-eat}
 use Rattle.imports.proofs.group.path_turn.Goals as goal
 
-pub returns-then-name : goal.returns-then-name
+pub returns-then-check : goal.returns-then-check
 unfolding path_turn
-returns-then-name c = then c.eat-more.ensures (when_true c.if-more.true (then c.check-name.ensures (when_true c.if-name.true (then c.pass-past.ensures gives))))
-
-pub returns-then-more : goal.returns-then-more
-unfolding path_turn
-returns-then-more c = then c.eat-more.ensures (when_true c.if-more.true (then c.check-name.ensures (when_false c.if-name.false gives)))
+returns-then-check c = then c.eat.ensures (when_true c.if-eat.true (then c.check.ensures (when_true c.if-check.true (then c.pass.ensures gives))))
 
 pub returns : goal.returns
 unfolding path_turn
-returns c = then c.eat-more.ensures (when_false c.if-more.false gives)
+returns c = elim c.else-eat.branch [
+  | else-eat-via-then-eat+else-check w ↦ rw w.p-is (then c.eat.ensures (when_true w.if-eat.true (then w.check.ensures (when_false w.if-check.false gives))))
+  | else-eat-via-else-eat w ↦ rw w.p-is (then c.eat.ensures (when_false w.if-eat.false gives))
+]

@@ -1,14 +1,11 @@
 -- `hash` meets its contract: the rest of the bytes gives the bucket of all.
-use mathlib.Core.Path.{refl, sym, ◌∙◌}
+use mathlib.Core.Path.{sym, ◌∙◌}
 use Rattle.interner.specs.Hash.{hash-next, hash-over}
-use Rattle.std.proofs.Common.{rules}
+use Rattle.std.proofs.Common.{arith}
 use Rattle.interner.proofs.trees.hash.Goals as goal
 
-pub loop-i-init : goal.loop-i-init
-loop-i-init c = (search rules, refl)
-
-pub loop-i-preserved : goal.loop-i-preserved
-loop-i-preserved c = (search rules, c.loop-i.invariant.1 ∙ (hash-next _ _ _ c.loop-i-test.true ∙ rw c.wide.ensures.0))
+pub loop-b-preserved : goal.loop-b-preserved
+loop-b-preserved c = (omega arith, c.loop-b.invariant.1 ∙ hash-next c.args.s.now _ c.loop-b.b-index (omega arith))
 
 pub returns : goal.returns
-returns c = (sym (c.loop-i.invariant.1 ∙ hash-over _ _ _ c.loop-i-test.false), search rules)
+returns c = (sym (c.loop-b.invariant.1 ∙ hash-over c.args.s.now _ c.loop-b.b-index (omega arith)), omega arith)

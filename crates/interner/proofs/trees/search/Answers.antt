@@ -1,5 +1,5 @@
 -- `search` meets its contract: no name that was passed matches, and no more are passed than the name has bits.
-use mathlib.Core.Path.{sym, ◌∙◌}
+use mathlib.Core.Path.{refl, sym, ◌∙◌}
 use Prim.Native.Nat.{◌+◌, ◌*◌, ◌≤◌}
 use native.Mathlib.Omega.{arith}
 use lib.ListN.{length}
@@ -29,22 +29,22 @@ pub bounds-links-p : goal.bounds-links-p
 bounds-links-p c = stands-inside _ _ _ _ _ c.requires.state _ _ c.loop-name.invariant
 
 pub returns-then-c-eq0 : goal.returns-then-c-eq0
-returns-then-c-eq0 c = ends-new _ _ _ _ _ c.requires.state _ _ c.loop-name.invariant _ c.wide-c.ensures c.requires.i_in_bounds.1 c.requires.i_in_bounds.0 c.if-c-eq0.true
+returns-then-c-eq0 c = ends-new _ _ _ _ _ c.requires.state _ _ c.loop-name.invariant _ refl c.requires.i_in_bounds.1 c.requires.i_in_bounds.0 c.if-c-eq0.true
 
 pub get-requires : goal.get-requires
-get-requires c = let low : 2 * c.wide-c.result ≤ 65537 = link-low _ _ _ _ _ c.requires.state _ _ c.wide-c.ensures in omega (arith, low)
+get-requires c = omega (arith, link-low _ _ _ _ _ c.requires.state c.loop-name.p _ refl)
 
 pub returns-then-named : goal.returns-then-named
-returns-then-named c = ends-old _ _ _ _ _ c.requires.state _ _ c.loop-name.invariant _ c.wide-c.ensures c.if-c-eq0.false _ c.get.ensures (sym (named-matches _ _ _ _ _ c.kind_at-kind.ensures c.spelling-name.ensures.0 _ _ c.named.ensures) ∙ c.if-named.true)
+returns-then-named c = ends-old _ _ _ _ _ c.requires.state _ _ c.loop-name.invariant _ refl c.if-c-eq0.false _ c.get.ensures (sym (named-matches _ _ _ _ _ c.kind_at-kind.ensures c.spelling-name.ensures.0 _ _ c.named.ensures) ∙ c.if-named.true)
 
 pub overflow_mul-p : goal.overflow_mul-p
-overflow_mul-p c = let low : 2 * c.wide-c.result ≤ 65537 = link-low _ _ _ _ _ c.requires.state _ _ c.wide-c.ensures in omega (arith, low)
+overflow_mul-p c = omega (arith, link-low _ _ _ _ _ c.requires.state c.loop-name.p _ refl)
 
 pub overflow_add-p : goal.overflow_add-p
-overflow_add-p c = let low : 2 * c.wide-c.result ≤ 65537 = link-low _ _ _ _ _ c.requires.state _ _ c.wide-c.ensures in omega (arith, low)
+overflow_add-p c = omega (arith, link-low _ _ _ _ _ c.requires.state c.loop-name.p _ refl)
 
 pub overflow_add-p-in-loop-name : goal.overflow_add-p-in-loop-name
-overflow_add-p-in-loop-name c = let low : 2 * c.wide-c.result ≤ 65537 = link-low _ _ _ _ _ c.requires.state _ _ c.wide-c.ensures in omega (arith, low)
+overflow_add-p-in-loop-name c = omega (arith, link-low _ _ _ _ _ c.requires.state c.loop-name.p _ refl)
 
 pub overflow_add-k : goal.overflow_add-k
 overflow_add-k c = let short : length c.spelling-name.result.now ≤ 65536 = name-short _ _ _ _ _ c.requires.state _ _ _ c.kind_at-kind.ensures c.spelling-name.ensures.0 c.hash-h.ensures.0 (λ i. omega (arith, c.type_inv.text i)) in let bound : c.loop-name.k ≤ 48 + 8 * length c.spelling-name.result.now = stands-short _ _ _ _ _ c.requires.state _ _ _ c.kind_at-kind.ensures c.spelling-name.ensures.0 c.hash-h.ensures.0 (λ i. omega (arith, c.type_inv.text i)) _ _ c.loop-name.invariant c.requires.i_in_bounds.1 in omega (arith, bound, short)
@@ -53,4 +53,4 @@ pub loop-name-smaller : goal.loop-name-smaller
 loop-name-smaller c = let bound : c.loop-name.k ≤ 48 + 8 * length c.spelling-name.result.now = stands-short _ _ _ _ _ c.requires.state _ _ _ c.kind_at-kind.ensures c.spelling-name.ensures.0 c.hash-h.ensures.0 (λ i. omega (arith, c.type_inv.text i)) _ _ c.loop-name.invariant c.requires.i_in_bounds.1 in omega (arith, bound)
 
 pub loop-name-preserved : goal.loop-name-preserved
-loop-name-preserved c = stands-next _ _ _ _ _ c.requires.state _ _ _ c.kind_at-kind.ensures c.spelling-name.ensures.0 c.hash-h.ensures.0 _ _ c.loop-name.invariant _ c.wide-c.ensures c.if-c-eq0.false _ c.get.ensures (sym (named-matches _ _ _ _ _ c.kind_at-kind.ensures c.spelling-name.ensures.0 _ _ c.named.ensures) ∙ c.if-named.false) _ c.turn.ensures.0
+loop-name-preserved c = stands-next _ _ _ _ _ c.requires.state _ _ _ c.kind_at-kind.ensures c.spelling-name.ensures.0 c.hash-h.ensures.0 _ _ c.loop-name.invariant _ refl c.if-c-eq0.false _ c.get.ensures (sym (named-matches _ _ _ _ _ c.kind_at-kind.ensures c.spelling-name.ensures.0 _ _ c.named.ensures) ∙ c.if-named.false) _ c.turn.ensures.0

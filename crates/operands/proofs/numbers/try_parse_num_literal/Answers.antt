@@ -2,20 +2,21 @@
 use Rattle.definition.specs.Nodes.{try_parse_num_literal}
 use Rattle.reading.specs.Does.{then, gives}
 use Rattle.operands.specs.Number.{radix-decimal, radix-hex, radix-bin, radix-none}
+use native.Mathlib.Omega.{arith}
 use Rattle.operands.proofs.numbers.try_parse_num_literal.Goals as goal
 
-pub returns-then-kind-eq-DECIMAL_LITERAL : goal.returns-then-kind-eq-DECIMAL_LITERAL
+pub returns-in-67 : goal.returns-in-67
 unfolding try_parse_num_literal
-returns-then-kind-eq-DECIMAL_LITERAL c = then c.peek-found.ensures (rw (radix-decimal _ c.if-kind-eq-DECIMAL_LITERAL.true) c.number_of.ensures)
+returns-in-67 c = then c.peek.ensures (rw (radix-decimal _ c.in-67.is) c.number_of.ensures)
 
-pub returns-then-kind-eq-HEX_LITERAL : goal.returns-then-kind-eq-HEX_LITERAL
+pub returns-in-68 : goal.returns-in-68
 unfolding try_parse_num_literal
-returns-then-kind-eq-HEX_LITERAL c = then c.peek-found.ensures (rw (radix-hex _ c.if-kind-eq-DECIMAL_LITERAL.false c.if-kind-eq-HEX_LITERAL.true) c.number_of-then-kind-eq-HEX_LITERAL.ensures)
+returns-in-68 c = then c.peek.ensures (rw (radix-hex _ c.in-68.is) c.number_of-in-68.ensures)
 
-pub returns-then-kind-eq-BIN_LITERAL : goal.returns-then-kind-eq-BIN_LITERAL
+pub returns-in-69 : goal.returns-in-69
 unfolding try_parse_num_literal
-returns-then-kind-eq-BIN_LITERAL c = then c.peek-found.ensures (rw (radix-bin _ c.if-kind-eq-DECIMAL_LITERAL.false c.if-kind-eq-HEX_LITERAL.false c.if-kind-eq-BIN_LITERAL.true) c.number_of-then-kind-eq-BIN_LITERAL.ensures)
+returns-in-69 c = then c.peek.ensures (rw (radix-bin _ c.in-69.is) c.number_of-in-69.ensures)
 
-pub returns : goal.returns
+pub returns-in_default : goal.returns-in_default
 unfolding try_parse_num_literal
-returns c = then c.peek-found.ensures (rw (radix-none _ c.if-kind-eq-DECIMAL_LITERAL.false c.if-kind-eq-HEX_LITERAL.false c.if-kind-eq-BIN_LITERAL.false) gives)
+returns-in_default c = then c.peek.ensures (rw (radix-none c.peek.result (λ e. omega (arith, e)) (λ e. omega (arith, e)) (λ e. omega (arith, e))) gives)

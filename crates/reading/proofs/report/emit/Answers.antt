@@ -1,5 +1,14 @@
 -- `emit` meets its contract.
+use mathlib.Core.Path.{refl}
+use Rattle.reading.specs.Leaves.{emit-stays, emit-full, emit-fits}
+use native.Mathlib.Omega.{arith}
 use Rattle.reading.proofs.report.emit.Goals as goal
 
+pub returns-then-is_refused : goal.returns-then-is_refused
+returns-then-is_refused c = emit-stays (rw c.is_refused.ensures at c.if-is_refused.true)
+
+pub returns-then-p-n : goal.returns-then-p-n
+returns-then-p-n c = rw c.refuse.ensures (emit-full _ (rw c.is_refused.ensures at c.if-is_refused.false) _ _ _ _ (omega arith))
+
 pub returns : goal.returns
-returns c = c.tell.ensures _ _
+returns c = emit-fits _ (rw c.is_refused.ensures at c.if-is_refused.false) _ _ _ _ _ _ (omega arith) c.report_words-w.ensures refl (record { text = refl; tokens = refl; nodes = refl; values = refl; reports = refl; levels = refl }) refl refl

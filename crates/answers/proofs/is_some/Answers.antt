@@ -1,8 +1,0 @@
--- `is_some` meets its contract.
-use Rattle.answers.proofs.is_some.Goals as goal
-
-pub returns-in-Some : goal.returns-in-Some
-returns-in-Some c = rw c.in-Some.is
-
-pub returns-in-None : goal.returns-in-None
-returns-in-None c = rw c.in-None.is
