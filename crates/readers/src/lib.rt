@@ -6,7 +6,7 @@ ghost use Rattle.std.specs.Prelude.{◌≡◌, false};
 ghost use Rattle.std.proofs.Math.Option.{none};
 ghost use Rattle.words.specs.Token;
 ghost use Rattle.definition.specs.Prog.{Loop, again, enter_expr, enter_block};
-ghost use Rattle.definition.specs.Expressions.{parse_expr, conditional, else_turn, else_if_branch, arm_turn, match_expr, parse_parameter, parse_function_signature_and_body, parse_function_def, parse_method_def, parse_struct_field, members, member_turn, parse_struct_def, expr_element, parse_tuple_type, tuple_turn, paren_or_tuple, try_parse_standalone_expr, call_expr, field_assign, struct_lit, try_parse_expr_min_bp};
+ghost use Rattle.definition.specs.Expressions.{parse_expr, conditional, else_turn, else_if_branch, arm_turn, match_expr, parse_parameter, parse_function_signature_and_body, parse_function_def, parse_method_def, parse_struct_field, members, member_turn, parse_struct_def, expr_element, parse_tuple_type, tuple_turn, paren_or_tuple, try_parse_standalone_expr, call_expr, field_assign, struct_lit};
 ghost use Rattle.definition.specs.Statements.{while_stmt, parse_let_stmt, return_stmt, comptime_stmt, assign_stmt, expr_stmt, try_parse_stmt, body, stmt_turn, parse_block};
 ghost use Rattle.reading.specs.Does.{Does};
 ghost use Rattle.stream.specs.Delimited.{elements};
@@ -55,7 +55,7 @@ fn too_deep(p: &mut Parser)
 
 // ---- expressions
 
-// `try_parse_expr_min_bp`
+// `try_parse_expr_min_bp`: an operand of a prefix or binary operator is read by the same function, one level deeper.
 #[cycle(readers)]
 pub fn expr(p: &mut Parser, mode: Mode, min: u32) -> Option<u32>
     ensures { Does (enter_expr mode min) p.old (maybe result) p.new }
@@ -65,16 +65,6 @@ pub fn expr(p: &mut Parser, mode: Mode, min: u32) -> Option<u32>
         return None;
     }
     p.levels -= 1;
-    let found = expr_within(p, mode, min);
-    p.levels += 1;
-    found
-}
-
-// The same, at a level that was opened for it.
-#[cycle(readers)]
-fn expr_within(p: &mut Parser, mode: Mode, min: u32) -> Option<u32>
-    ensures { Does (try_parse_expr_min_bp mode min) p.old (maybe result) p.new }
-{
     let head = steps::prefix(p);
     let found = match head.it {
         Some(u) => {
@@ -83,7 +73,10 @@ fn expr_within(p: &mut Parser, mode: Mode, min: u32) -> Option<u32>
         }
         None => atom(p),
     };
-    let Some(mut left) = found else { return None };
+    let Some(mut left) = found else {
+        p.levels += 1;
+        return None;
+    };
     for _turn in 0..turns_of(p.tokens) {
         if p.is_refused() {
             break;
@@ -97,6 +90,7 @@ fn expr_within(p: &mut Parser, mode: Mode, min: u32) -> Option<u32>
         let right = expr(p, mode, infix.right);
         left = parts::close_operand(p, u, right);
     }
+    p.levels += 1;
     Some(left)
 }
 

@@ -46,18 +46,23 @@ pub fn expect_check_recovery(p: &mut Parser, token: u32, recovery: &[u32]) -> bo
     eaten
 }
 
-// Tokens are passed up to one of these, or to the end of all.
+// Tokens are passed up to one of these, or to the end of all: the scan for it leaves both loops.
 pub fn skip_until_recovery_token(p: &mut Parser, recovery: &[u32])
     ensures { Does (skip_until_recovery_token recovery.now) p.old tt p.new }
 {
-    for _turn in 0..turns_of(p.tokens) {
+    'skip: for _turn in 0..turns_of(p.tokens) {
         if p.is_refused() {
             break;
         }
         let ended = eof(p);
         let found = peek(p);
-        if ended || contains(recovery, found) {
+        if ended {
             break;
+        }
+        for i in 0..recovery.len() {
+            if found == recovery[i] {
+                break 'skip;
+            }
         }
         pass(p);
     }

@@ -24,15 +24,26 @@ pub fn named(text: &[u8], tokens: &[u32], kind: u32, name: &[u8], n: usize) -> b
     kind_at(tokens, n) == kind && lexer::spelling(text, tokens, n) == name
 }
 
-// The number of the first token of the kind that is spelled as token `i`.
+// The number of the first token of the kind that is spelled as token `i`. Where a byte differs, the scan of bytes goes on to the next
+// token.
 pub fn first_alike(text: &[u8], tokens: &[u32], kind: u32, i: u32) -> usize
     ensures { result ≡ first_alike text.now tokens.now kind i }
 {
     let name = lexer::spelling(text, tokens, i as usize);
-    for n in 0..tokens.len() {
-        if named(text, tokens, kind, name, n) {
-            return n;
+    'tokens: for n in 0..tokens.len() {
+        if kind_at(tokens, n) != kind {
+            continue;
         }
+        let other = lexer::spelling(text, tokens, n);
+        if other.len() != name.len() {
+            continue;
+        }
+        for j in 0..name.len() {
+            if other[j] != name[j] {
+                continue 'tokens;
+            }
+        }
+        return n;
     }
     tokens.len()
 }

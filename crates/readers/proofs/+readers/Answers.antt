@@ -17,11 +17,12 @@ use Rattle.definition.specs.Statements.{expr_stmt, comptime_stmt, let_stmt, retu
 use Rattle.readers.specs.Level.{no_block, block-level, no-expr, expr-level}
 use mathlib.Core.Path.{◌≡◌, sym, ◌∙◌}
 use Rattle.std.specs.Prelude.{Option as Maybe}
+use Rattle.definition.specs.Prog.{Prog}
 use Rattle.reading.specs.declared.parser.Parser.{Parser}
 use Rattle.definition.specs.declared.Mode.{Mode}
 use Rattle.cst.specs.Cst.{maybe}
 use Rattle.readers.proofs.+readers.Goals as goal
-use Rattle.readers.proofs.+readers.Goals.{elems-in-Some+else-not-eat, elems-in-None+else-list_ends, expr_within-in-Some, expr_within-in-None, inits-in-Some+else-not-eat, inits-in-None+else-list_ends, inner-then-one_of-2, inner-else-one_of-2, paren-then-more, paren-else-more, pars-in-Some+else-not-eat, pars-in-None+else-list_ends}
+use Rattle.readers.proofs.+readers.Goals.{elems-in-Some+else-not-eat, elems-in-None+else-list_ends, expr-in-Some, expr-in-None, expr-else-loop-turn-test, expr-then-loop-turn-test+then-is_refused, expr-then-loop-turn-test+else-is_refused+in_default-post+in_default-it, inits-in-Some+else-not-eat, inits-in-None+else-list_ends, inner-then-one_of-2, inner-else-one_of-2, paren-then-more, paren-else-more, pars-in-Some+else-not-eat, pars-in-None+else-list_ends}
 
 -- `alts` meets its contract: what is left of the loop comes to what the whole loop comes to.
 pub alts-loop-turn-init : goal.alts-loop-turn-init
@@ -430,55 +431,53 @@ block-returns t c = block-level c.if-p-eq0.false c.block_within-n.ensures
 pub block_within-returns : goal.block_within-returns
 block_within-returns t c = regrouped (block_same _ _ _ _ _) (then c.open_block-both.ensures (then c.seq-all.ensures c.close_block.ensures))
 
--- `expr` meets its contract.
+-- `expr` meets its contract: what is left of the loop comes to what the whole loop comes to.
 pub expr-returns-then-p-eq0 : goal.expr-returns-then-p-eq0
 expr-returns-then-p-eq0 t c = rw c.too_deep.ensures (no-expr c.if-p-eq0.true)
 
-pub expr-returns : goal.expr-returns
-expr-returns t c = expr-level c.if-p-eq0.false c.expr_within-found.ensures
-
--- `expr_within` meets its contract: what is left of the loop comes to what the whole loop comes to.
 -- What is read goes on from where two ways join.
 joined : (mode : Mode) (least start : ℕ) {found first : Maybe ℕ} {q q' r : Parser} {b : Option ℕ} → found ≡ first → q ≡ q'
     → Does (last_rest mode least start (maybe found)) q b r → Does (last_rest mode least start (maybe first)) q' b r
 joined mode least start e f D = rw (← e, ← f) D
 
-pub expr_within-returns-in_default : goal.expr_within-returns-in_default
-expr_within-returns-in_default t c =
-    elim c.match-head.branch [
-      | expr_within-in-Some w ↦ regrouped (expr-same _ _ _ _ _) (then (rw w.in-Some.is at c.prefix-head.ensures) (then (then w.expr-operand.ensures w.close_unary-found.ensures) (joined _ _ _ w.found-is w.p-is (rw c.in_default.is gives))))
-      | expr_within-in-None w ↦ regrouped (expr-same _ _ _ _ _) (then (rw w.in-None.is at c.prefix-head.ensures) (then w.atom-found.ensures (joined _ _ _ w.found-is w.p-is (rw c.in_default.is gives))))
-    ]
+-- The same of where it ends, as the loop is left in three ways.
+left-so : {A : Type 0} {c : Prog A} {p q q' : Parser} {a : A} → q ≡ q' → Does c p a q' → Does c p a q
+left-so e D = rw e D
 
-pub expr_within-loop-turn-init : goal.expr_within-loop-turn-init
-expr_within-loop-turn-init t c = first-turn
+pub expr-returns-in_default : goal.expr-returns-in_default
+expr-returns-in_default t c =
+    expr-level c.if-p-eq0.false
+    (elim c.match-head.branch [
+      | expr-in-Some w ↦ regrouped (expr-same _ _ _ _ _) (then (rw w.in-Some.is at c.prefix-head.ensures) (then (then w.expr-operand.ensures w.close_unary-found.ensures) (joined _ _ _ w.found-is w.p-is (rw c.in_default.is gives))))
+      | expr-in-None w ↦ regrouped (expr-same _ _ _ _ _) (then (rw w.in-None.is at c.prefix-head.ensures) (then w.atom-found.ensures (joined _ _ _ w.found-is w.p-is (rw c.in_default.is gives))))
+    ])
 
-pub expr_within-loop-turn-preserved-in-Some-post : goal.expr_within-loop-turn-preserved-in-Some-post
-expr_within-loop-turn-preserved-in-Some-post t c = next-turn c.loop-turn.invariant c.turns_of-turn-end.ensures c.loop-turn-test.true (regrouped (turn-same _ _ _ _ _ _ _) (then (rw c.in-Some-post.is at c.post.ensures) gives))
+pub expr-loop-turn-init : goal.expr-loop-turn-init
+expr-loop-turn-init t c = first-turn
 
-pub expr_within-loop-turn-preserved : goal.expr_within-loop-turn-preserved
-expr_within-loop-turn-preserved t c = next-turn c.loop-turn.invariant c.turns_of-turn-end.ensures c.loop-turn-test.true (regrouped (turn-same _ _ _ _ _ _ _) (then (rw c.in_default-post.is at c.post.ensures) (then (rw c.in-Some-it.is at c.infix-infix.ensures) (then c.expr-right.ensures (then c.close_operand-left.ensures gives)))))
+pub expr-loop-turn-preserved-in-Some-post : goal.expr-loop-turn-preserved-in-Some-post
+expr-loop-turn-preserved-in-Some-post t c = next-turn c.loop-turn.invariant c.turns_of-turn-end.ensures c.loop-turn-test.true (regrouped (turn-same _ _ _ _ _ _ _) (then (rw c.in-Some-post.is at c.post.ensures) gives))
 
-pub expr_within-returns-after-loop-turn : goal.expr_within-returns-after-loop-turn
-expr_within-returns-after-loop-turn t c =
-    elim c.match-head.branch [
-      | expr_within-in-Some w ↦ regrouped (expr-same _ _ _ _ _) (then (rw w.in-Some.is at c.prefix-head.ensures) (then (then w.expr-operand.ensures w.close_unary-found.ensures) (joined _ _ _ w.found-is w.p-is (rw c.in-Some-found.is (then (no-turn-left c.loop-turn.invariant c.turns_of-turn-end.ensures c.loop-turn-test.false) gives)))))
-      | expr_within-in-None w ↦ regrouped (expr-same _ _ _ _ _) (then (rw w.in-None.is at c.prefix-head.ensures) (then w.atom-found.ensures (joined _ _ _ w.found-is w.p-is (rw c.in-Some-found.is (then (no-turn-left c.loop-turn.invariant c.turns_of-turn-end.ensures c.loop-turn-test.false) gives)))))
-    ]
+pub expr-loop-turn-preserved : goal.expr-loop-turn-preserved
+expr-loop-turn-preserved t c = next-turn c.loop-turn.invariant c.turns_of-turn-end.ensures c.loop-turn-test.true (regrouped (turn-same _ _ _ _ _ _ _) (then (rw c.in_default-post.is at c.post.ensures) (then (rw c.in-Some-it.is at c.infix-infix.ensures) (then c.expr-right.ensures (then c.close_operand-left.ensures gives)))))
 
-pub expr_within-returns-then-is_refused : goal.expr_within-returns-then-is_refused
-expr_within-returns-then-is_refused t c =
-    elim c.match-head.branch [
-      | expr_within-in-Some w ↦ regrouped (expr-same _ _ _ _ _) (then (rw w.in-Some.is at c.prefix-head.ensures) (then (then w.expr-operand.ensures w.close_unary-found.ensures) (joined _ _ _ w.found-is w.p-is (rw c.in-Some-found.is (then (refused-turn c.loop-turn.invariant (sym c.is_refused.ensures ∙ c.if-is_refused.true)) gives)))))
-      | expr_within-in-None w ↦ regrouped (expr-same _ _ _ _ _) (then (rw w.in-None.is at c.prefix-head.ensures) (then w.atom-found.ensures (joined _ _ _ w.found-is w.p-is (rw c.in-Some-found.is (then (refused-turn c.loop-turn.invariant (sym c.is_refused.ensures ∙ c.if-is_refused.true)) gives)))))
-    ]
-
-pub expr_within-returns-in_default-it : goal.expr_within-returns-in_default-it
-expr_within-returns-in_default-it t c =
-    elim c.match-head.branch [
-      | expr_within-in-Some w ↦ regrouped (expr-same _ _ _ _ _) (then (rw w.in-Some.is at c.prefix-head.ensures) (then (then w.expr-operand.ensures w.close_unary-found.ensures) (joined _ _ _ w.found-is w.p-is (rw c.in-Some-found.is (then (last_turn c.loop-turn.invariant c.turns_of-turn-end.ensures c.loop-turn-test.true (regrouped (turn-same _ _ _ _ _ _ _) (then (rw c.in_default-post.is at c.post.ensures) (then (rw c.in_default-it.is at c.infix-infix.ensures) gives)))) gives)))))
-      | expr_within-in-None w ↦ regrouped (expr-same _ _ _ _ _) (then (rw w.in-None.is at c.prefix-head.ensures) (then w.atom-found.ensures (joined _ _ _ w.found-is w.p-is (rw c.in-Some-found.is (then (last_turn c.loop-turn.invariant c.turns_of-turn-end.ensures c.loop-turn-test.true (regrouped (turn-same _ _ _ _ _ _ _) (then (rw c.in_default-post.is at c.post.ensures) (then (rw c.in_default-it.is at c.infix-infix.ensures) gives)))) gives)))))
-    ]
+pub expr-returns : goal.expr-returns
+expr-returns t c =
+    expr-level c.if-p-eq0.false
+    (elim c.loop-turn-test.branch [
+      | expr-else-loop-turn-test v ↦ left-so v.p-is (elim c.match-head.branch [
+        | expr-in-Some w ↦ regrouped (expr-same _ _ _ _ _) (then (rw w.in-Some.is at c.prefix-head.ensures) (then (then w.expr-operand.ensures w.close_unary-found.ensures) (joined _ _ _ w.found-is w.p-is (rw c.in-Some-found.is (then (no-turn-left c.loop-turn.invariant c.turns_of-turn-end.ensures v.loop-turn-test.false) gives)))))
+        | expr-in-None w ↦ regrouped (expr-same _ _ _ _ _) (then (rw w.in-None.is at c.prefix-head.ensures) (then w.atom-found.ensures (joined _ _ _ w.found-is w.p-is (rw c.in-Some-found.is (then (no-turn-left c.loop-turn.invariant c.turns_of-turn-end.ensures v.loop-turn-test.false) gives)))))
+      ])
+      | expr-then-loop-turn-test+then-is_refused v ↦ left-so v.p-is (elim c.match-head.branch [
+        | expr-in-Some w ↦ regrouped (expr-same _ _ _ _ _) (then (rw w.in-Some.is at c.prefix-head.ensures) (then (then w.expr-operand.ensures w.close_unary-found.ensures) (joined _ _ _ w.found-is w.p-is (rw c.in-Some-found.is (then (refused-turn c.loop-turn.invariant (sym v.is_refused.ensures ∙ v.if-is_refused.true)) gives)))))
+        | expr-in-None w ↦ regrouped (expr-same _ _ _ _ _) (then (rw w.in-None.is at c.prefix-head.ensures) (then w.atom-found.ensures (joined _ _ _ w.found-is w.p-is (rw c.in-Some-found.is (then (refused-turn c.loop-turn.invariant (sym v.is_refused.ensures ∙ v.if-is_refused.true)) gives)))))
+      ])
+      | expr-then-loop-turn-test+else-is_refused+in_default-post+in_default-it v ↦ left-so v.p-is (elim c.match-head.branch [
+        | expr-in-Some w ↦ regrouped (expr-same _ _ _ _ _) (then (rw w.in-Some.is at c.prefix-head.ensures) (then (then w.expr-operand.ensures w.close_unary-found.ensures) (joined _ _ _ w.found-is w.p-is (rw c.in-Some-found.is (then (last_turn c.loop-turn.invariant c.turns_of-turn-end.ensures v.loop-turn-test.true (regrouped (turn-same _ _ _ _ _ _ _) (then (rw v.in_default-post.is at v.post.ensures) (then (rw v.in_default-it.is at v.infix-infix.ensures) gives)))) gives)))))
+        | expr-in-None w ↦ regrouped (expr-same _ _ _ _ _) (then (rw w.in-None.is at c.prefix-head.ensures) (then w.atom-found.ensures (joined _ _ _ w.found-is w.p-is (rw c.in-Some-found.is (then (last_turn c.loop-turn.invariant c.turns_of-turn-end.ensures v.loop-turn-test.true (regrouped (turn-same _ _ _ _ _ _ _) (then (rw v.in_default-post.is at v.post.ensures) (then (rw v.in_default-it.is at v.infix-infix.ensures) gives)))) gives)))))
+      ])
+    ])
 
 -- `paren` meets its contract.
 pub paren-returns-in-Empty : goal.paren-returns-in-Empty

@@ -98,9 +98,6 @@ abbrev pub decreases-expr : goal.decreases-expr
 decreases-expr l = l.p.now.levels * 64 + 0
 
 -- What reads at a level that was opened calls all others.
-abbrev pub decreases-expr_within : goal.decreases-expr_within
-decreases-expr_within l = l.p.now.levels * 64 + 9
-
 abbrev pub decreases-block_within : goal.decreases-block_within
 decreases-block_within l = l.p.now.levels * 64 + 9
 
@@ -149,8 +146,8 @@ invariant-arms-loop-turn l = Turns arm_turn l.initial.list l.initial.p l._turn l
 abbrev pub invariant-elems-loop-turn : goal.invariant-elems-loop-turn
 invariant-elems-loop-turn l = Listing l.terminator Token.Comma expr_element l.initial.list l.initial.p l._turn l.list l.emitted l.p
 
-abbrev pub invariant-expr_within-loop-turn : goal.invariant-expr_within-loop-turn
-invariant-expr_within-loop-turn l = Turns (expr_turn l.mode l.min l.head.start) l.initial.left l.initial.p l._turn l.left l.p
+abbrev pub invariant-expr-loop-turn : goal.invariant-expr-loop-turn
+invariant-expr-loop-turn l = Turns (expr_turn l.mode l.min l.head.start) l.initial.left l.initial.p l._turn l.left l.p
 
 abbrev pub invariant-inits-loop-turn : goal.invariant-inits-loop-turn
 invariant-inits-loop-turn l = Listing Token.RightCurly Token.Comma field_assign l.initial.list l.initial.p l._turn l.list l.emitted l.p
