@@ -24,11 +24,11 @@ pub record Digit (w : List ℕ) (i code end digit : ℕ) (bad : Bool) : Type 0 w
   pub small : digit < 16
 
 module _ (w : List ℕ) (i code end : ℕ) (st : Standing w i code end) where
-  digit-good : (d : ℕ) → some d ≡ nibble code → d < 16 → Digit w i code end d false
+  pub digit-good : (d : ℕ) → some d ≡ nibble code → d < 16 → Digit w i code end d false
   unfolding digit_or0 is_bad
   digit-good d e h = record { stands = st; counts = λ start stop. rw (← e, digit_or0); fails = λ start stop. rw (← e, is_bad); small = h }
 
-  digit-bad : none ≡ nibble code → Digit w i code end 0 true
+  pub digit-bad : none ≡ nibble code → Digit w i code end 0 true
   unfolding digit_or0 is_bad
   digit-bad e = record { stands = st; counts = λ start stop. rw (← e, digit_or0); fails = λ start stop. rw (← e, is_bad); small = lit< tt }
 

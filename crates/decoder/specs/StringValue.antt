@@ -2,6 +2,7 @@
 use Rattle.std.specs.Prelude.{◌≡◌, refl, true, false, Option, Some, None, List, ℕ, ◌+◌, ◌-◌, ◌/◌, ◌%◌, ◌≤◌, ◌<◌, min, length, take, drop, set}
 use Rattle.std.proofs.Common.{sym, ◌∙◌, append-nil, arith, length-drop}
 use Rattle.words.specs.declared.refusal.Refusal.TheVariants.{ValuesDontFit}
+use Rattle.words.specs.declared.refusal.Refused.{Refused}
 use Rattle.words.specs.Value
 use Rattle.words.specs.Words.{value_head}
 use Rattle.literals.specs.Strings.{fours, string_value}
@@ -9,9 +10,9 @@ use Rattle.definition.specs.Prog.{value}
 use Rattle.reading.specs.declared.parser.Parser.{Parser}
 use Rattle.reading.specs.Standing as Standing
 use Rattle.reading.specs.Standing.{is_refused, refused_at}
-use Rattle.reading.specs.Does.{Does, same, refused-kept}
+use Rattle.reading.specs.Does.{Does, view, kept_then, refused-kept}
 use Rattle.words.specs.Parts.{part-whole, part-rest}
-use Rattle.values.specs.Kept.{Put, Kept, past_words, lending, lent-stays, kept-fits, value-full, value-fits}
+use Rattle.values.specs.Kept.{Put, Kept, past_words, lending, back-lent, lent-stays, kept-fits, value-full, value-fits}
 use Rattle.decoder.specs.Fours.{Held, packed, fours-length}
 
 -- Whatever bytes are held behind the place of the next value's first word, it does what `value` does with them.
@@ -49,8 +50,19 @@ module _ (c : Option ℕ) (p : Parser) where
   abbrev at : ℕ
   at = p.state.values
 
-  pub string-stays : is_refused p ≡ true → StringKept c p at p
-  string-stays h = record { does = λ lent bs k. lent-stays lent h; kept = same }
+  -- What was refused stays so, whatever words and state it then has.
+  pub string-stays : is_refused p ≡ true → (p' : Parser) → p'.refused ≡ p.refused → Standing.Kept p p' → StringKept c p at p'
+  string-stays h p' g k =
+      record {
+        does = λ lent bs held. record { is = λ w. there p.refused refl ∙ (lent-stays {c = value (string_value bs)} {p = p} lent h).is w; kept = kept_then back-lent k };
+        kept = k;
+      }
+    where
+      there : (t : Option Refused) → p.refused ≡ t → view at p' ≡ view at p
+      there None e =
+          let z : false ≡ true = rw e at h in
+          absurd cc
+      there (Some r) e = rw (g, e)
 
   module _ (h : is_refused p ≡ false) where
     -- Where the words are more than there is room for.

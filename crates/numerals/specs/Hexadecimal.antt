@@ -66,8 +66,11 @@ pub record Leading (source : List ℕ) (prefix i : ℕ) : Type 0 where
   pub some : (end : ℕ) → i < end → end ≤ length source → 0 < before source i end
 
 module _ (source : List ℕ) (prefix i : ℕ) (e : digits 16 0 (drop i source) ≡ digits 16 0 (drop prefix source)) where
-  pub leading-none : length source ≤ i → Leading source prefix (length source)
-  leading-none h =
+  pub leading-none : length source ≤ i → Leading source prefix i
+  leading-none h = record { same = e; some = λ end g k. absurd (omega arith) }
+
+  pub leading-end : length source ≤ i → Leading source prefix (length source)
+  leading-end h =
       let over : drop i source ≡ [] = drop_of_length-le source h in
       let all : drop (length source) source ≡ [] = drop_of_length-le source (omega arith) in
       record { same = rw (all, ← over) e; some = λ end g k. absurd (omega arith) }

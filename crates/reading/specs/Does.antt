@@ -145,6 +145,10 @@ module _ {p : Parser} where
       → run p c p.state (words p) ≡ done a p'.state (words p') → Does c p a p'
   goes {p' = p'} h g k e = record { is = λ w. rw (g, not_refused p h) (sym e); kept = k }
 
-  -- Or is refused.
+  -- Or is refused, whatever words and state it then has.
+  pub halts-so : {A : Type 0} {c : Prog A} {a : A} {r : Refusal} {p' : Parser} → is_refused p ≡ false → p'.refused ≡ (refused_at p r).refused → Kept p p'
+      → run p c p.state (words p) ≡ refused (number r) p.state.cursor.at → Does c p a p'
+  halts-so h g k e = record { is = λ w. rw (g, not_refused p h) (sym e); kept = k }
+
   pub halts : {A : Type 0} {c : Prog A} {a : A} {r : Refusal} → is_refused p ≡ false → run p c p.state (words p) ≡ refused (number r) p.state.cursor.at → Does c p a (refused_at p r)
-  halts h e = record { is = λ w. rw (not_refused p h) (sym e); kept = refused-kept }
+  halts h e = halts-so h refl refused-kept e

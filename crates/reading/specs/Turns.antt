@@ -31,11 +31,12 @@ module _ {S : Type 0} {body : S → Prog (Turn S)} {x₀ : S} {p₀ : Parser} wh
     pub refused-turn : is_refused p ≡ true → Does (Loop x₀ body) p₀ x p
     refused-turn h = record { is = λ w. standing x p (turns p₀ body (turns_of p₀.tokens.now - i) x) h ∙ t.is w; kept = t.kept }
 
-    pub no-turn-left : {n : ℕ} → n ≡ turns_of p₀.tokens.now → n ≤ i → Does (Loop x₀ body) p₀ x p
+    pub no-turn : turns_of p₀.tokens.now - i ≡ 0 → Does (Loop x₀ body) p₀ x p
     unfolding iter
-    no-turn-left e h =
-        let none : turns_of p₀.tokens.now - i ≡ 0 = omega arith in
-        record { is = λ w. (rw none at t.is w); kept = t.kept }
+    no-turn none = record { is = λ w. (rw none at t.is w); kept = t.kept }
+
+    pub no-turn-left : {n : ℕ} → n ≡ turns_of p₀.tokens.now → n ≤ i → Does (Loop x₀ body) p₀ x p
+    no-turn-left e h = no-turn (omega arith)
 
     turned : {a : Turn S} {p' : Parser} {n : ℕ} → n ≡ turns_of p₀.tokens.now → i < n → Does (body x) p a p'
         → Right p₀.text.now p₀.tokens.now → from p' (after p₀ body (turns_of p₀.tokens.now - (i + 1)) a) ≡ from p₀ (run p₀ (Loop x₀ body))

@@ -8,11 +8,10 @@ use Rattle.words.specs.Token
 use Rattle.literals.specs.declared.Span.{Span}
 use Rattle.literals.specs.Spelling.{span, token_start, word_at}
 use Rattle.definition.specs.declared.Cursor.{Cursor}
-use Rattle.definition.specs.Prog.{Act, Turn, again, stop, ◌>>=◌, whether◌then◌else◌, done, kind_at, advanced, passed, skip_trivia, is_marked, marked_here, peek, pass, here, before, marked, position, emit_and_mark, eval}
+use Rattle.definition.specs.Prog.{Act, Turn, again, stop, ◌>>=◌, whether◌then◌else◌, done, kind_at, advanced, passed, skip_trivia, is_marked, marked_here, peek, pass, here, before, marked, position, emit, emit_and_mark, eval}
 use Rattle.definition.specs.Tokens.{contains, emit_unexpected}
 use Rattle.reading.specs.declared.parser.Parser.{Parser}
 use Rattle.reading.specs.Does.{Does, Steps, view, from, run, then-view, same, kept_then}
-use Rattle.reading.specs.Leaves.{Reports}
 use Rattle.stream.specs.Skip.{moved, kind-any}
 use Rattle.stream.specs.Trivia.{stays_here, passes-here}
 
@@ -62,9 +61,9 @@ module _ {p : Parser} where
 abbrev pub mark_here : Parser → Parser
 mark_here p = record p { state = marked_here p.state }
 
-pub mark-emit : {p r : Parser} {kind detail : ℕ} {q : Span} → Reports kind detail q (mark_here p) r → Does (emit_and_mark kind detail q) p tt r
+pub mark-emit : {p r : Parser} {kind detail : ℕ} {q : Span} → Does (emit kind detail q) (mark_here p) tt r → Does (emit_and_mark kind detail q) p tt r
 unfolding eval
-mark-emit g = record { is = λ w. g.is; kept = kept_then (record { text = refl; tokens = refl; nodes = refl; values = refl; reports = refl; levels = refl }) g.kept }
+mark-emit g = record { is = λ w. g.is w; kept = kept_then (record { text = refl; tokens = refl; nodes = refl; values = refl; reports = refl; levels = refl }) g.kept }
 
 -- A list searched from its i-th on.
 pub contains-next : (l : List ℕ) (i token : ℕ) (b : Bool) → i < length l → (token ≡ get_or l i 0 → ⊥) → contains (drop i l) token ≡ b → contains (drop (i + 1) l) token ≡ b
