@@ -2,7 +2,7 @@
 // first to be spelled so, and a table made in one pass spares it a look at all tokens for each.
 #![tactic(auto)]
 
-ghost use Rattle.std.specs.Prelude.{◌≡◌, true, false, ◌&&◌, length};
+ghost use Rattle.std.specs.Prelude.{◌≡◌, true, false, ◌&&◌, ◌≤◌, length, take};
 ghost use Rattle.reading.specs.Source.{is_told, first_of};
 ghost use Rattle.interner.specs.Same.{all_inside};
 ghost use Rattle.interner.specs.Order.{names_rise};
@@ -64,6 +64,16 @@ fn in_order(tokens: &[u32], n: usize) -> bool
     true
 }
 
+// The source begins with the text. The library's copy would be a call of `memmove`, which programs in C would have to bring.
+fn copy(text: &[u8], source: &mut [u8])
+    requires { length text.now ≤ length source.old }
+    ensures { take (length text.now) source.new ≡ text.now }
+{
+    for i in 0..text.len() {
+        source[i] = text[i];
+    }
+}
+
 // The source of a text and its tokens: the text, and the table of its names. It answers false, and leaves what it was lent, where the
 // text is longer than any, the source has no room for it, a token ends past it, or names share a place in the table.
 pub fn annotate(text: &[u8], tokens: &[u32], source: &mut [u8]) -> bool
@@ -76,7 +86,7 @@ pub fn annotate(text: &[u8], tokens: &[u32], source: &mut [u8]) -> bool
         return false;
     }
     if in_order(tokens, text.len()) {
-        source[..text.len()].copy_from_slice(text);
+        copy(text, source);
         trees::tell(text, tokens, source);
         return true;
     }

@@ -301,32 +301,23 @@ fn invalid(text: &[u8], at: usize) -> Token
     }
 }
 
-// The tables, made once and lent: a constant array is made anew wherever it stands.
+// The tables, made once by `lex` and lent: a constant array is made anew wherever it stands. Held by value they would be copied from
+// where they are made, and the library for C would need `memcpy`.
 #[derive(Drop)]
-struct Tables {
-    classes: [u8; 256],
-    states: [u8; 988],
-    kinds: [u32; 96],
-    keys: [u8; 208],
-    spellings: [u8; 192],
-    ghost classes_are: { classes ≡ class_list },
-    ghost states_are: { states ≡ next_list },
-    ghost kinds_are: { kinds ≡ kind_list },
-    ghost keys_are: { keys ≡ key_list },
-    ghost spellings_are: { spellings ≡ spelling_list },
+struct Tables<'a> {
+    classes: &'a [u8; 256],
+    states: &'a [u8; 988],
+    kinds: &'a [u32; 96],
+    keys: &'a [u8; 208],
+    spellings: &'a [u8; 192],
+    ghost classes_are: { classes.now ≡ class_list },
+    ghost states_are: { states.now ≡ next_list },
+    ghost kinds_are: { kinds.now ≡ kind_list },
+    ghost keys_are: { keys.now ≡ key_list },
+    ghost spellings_are: { spellings.now ≡ spelling_list },
 }
 
-impl Tables {
-    fn new() -> Tables {
-        Tables {
-            classes: CLASSES,
-            states: NEXT,
-            kinds: KINDS,
-            keys: KEYS,
-            spellings: SPELLINGS,
-        }
-    }
-
+impl Tables<'_> {
     fn class(&self, b: u8) -> u8
         ensures { (result ≡ class_of b) × (b < 256) }
     {
@@ -474,7 +465,8 @@ impl Tables {
         if key == b'-' {
             return token::IDENTIFIER;
         }
-        let lines = &self.spellings[..];
+        let spellings = self.spellings;
+        let lines = &spellings[..];
         let line = (key as usize - 65) * 8;
         if &lines[line..line + n] == word {
             return key as u32 - 24;
@@ -588,6 +580,17 @@ impl Tables {
 pub fn lex(text: &[u8], tokens: &mut [u32]) -> Lexed
     ensures { (answer result ≡ lexed text.now (length tokens.old)) × (tokens.new ≡ lexed_words text.now (length tokens.old)) }
 {
-    let tables = Tables::new();
+    let classes = CLASSES;
+    let states = NEXT;
+    let kinds = KINDS;
+    let keys = KEYS;
+    let spellings = SPELLINGS;
+    let tables = Tables {
+        classes: &classes,
+        states: &states,
+        kinds: &kinds,
+        keys: &keys,
+        spellings: &spellings,
+    };
     lexer::lex_by(text, tokens, |at| tables.token_at(text, at))
 }
