@@ -11,6 +11,9 @@ const BEFORE: usize = 100;
 // The columns of a control character, which is shown as `<U+001B>`.
 const NAMED: usize = 8;
 
+// The room for the marks of a line: those of its bytes and of a character that is not cut, and a caret.
+const ROOM: usize = 1312;
+
 // The first offset from one on where a character begins, or the text's end.
 fn next_start(text: &[u8], from: usize) -> usize {
     for at in from..text.len() {
@@ -126,15 +129,18 @@ fn carets(
     place: usize,
     place_end: usize,
 ) -> io::Result<()> {
+    // A line is written at once: what is written here has no buffer.
+    let mut line = [b'^'; ROOM];
+    let mut n = 0usize;
     let stop = carets_end(end, place, place_end).min(text.len());
     for at in start..stop {
-        let mark = mark(text[at], place <= at);
-        for _ in 0..columns_at(text, at) {
-            out.write_all(&[mark])?;
-        }
+        let next = n.saturating_add(columns_at(text, at)).min(ROOM - 1);
+        line[n..next].fill(mark(text[at], place <= at));
+        n = next;
     }
     // At the line's end there is no character, and a caret stands behind the last one.
-    print_if(out, end <= place, b"^")
+    let marked = if end <= place { n + 1 } else { n };
+    out.write_all(&line[..marked])
 }
 
 // What shows that a line is cut, or keeps the carets below it in their place.

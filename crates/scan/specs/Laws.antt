@@ -12,7 +12,7 @@ use Rattle.std.proofs.Math.Dec.{eqb-zero-suc}
 use Rattle.std.proofs.Math.ListN.{length, drop_of_length-le, get_or-eq_default}
 use Rattle.words.specs.Token as TokenKind
 use Rattle.scan.specs.declared.Token.{Token}
-use Rattle.scan.specs.Bytes.{Class, within, ident_part, is_digit}
+use Rattle.scan.specs.Bytes.{Class, within, digit, upper, lower, ident_start, ident_part, is_digit}
 use Rattle.scan.specs.Lexer.{Lexeme, lexeme, more, from, run, spelled, line_comment, block_comment, number, string}
 use Rattle.scan.specs.Longest.{same, same_length}
 use Rattle.scan.specs.Fits.{spelled-within}
@@ -159,6 +159,26 @@ module _ (text : List ℕ) (i : ℕ) (q : Class) (n : ℕ) where
     unfolding run
     run-next f p = let g : i + suc (run q (drop (i + 1) text)) ≡ n = rw (rest-cons text i h, sym e ∙ f) at p in omega arith
 
+or-true : (p : Bool) → (p || true) ≡ true
+or-true true = refl
+or-true false = refl
+
+or-false : (p : Bool) → (p || false) ≡ p
+or-false true = refl
+or-false false = refl
+
+-- A byte that isn't outside a radix is a letter, a digit or `_`.
+inside-part : (radix b : ℕ) → (not (eqb b 95) && not (is_digit radix b)) ≡ false → ident_part b ≡ true
+unfolding ident_part ident_start is_digit
+inside-part radix b e = go (lower b) (upper b) (eqb b 95) (digit b) _ _ _ e
+  where
+    go : (l u n d x y z : Bool) → (not n && not (cond d x (cond u y (cond l z false)))) ≡ false → ((l || (u || n)) || d) ≡ true
+    go true u n d x y z e = refl
+    go false true n d x y z e = refl
+    go false false true d x y z e = refl
+    go false false false true x y z e = refl
+    go false false false false x y z e = absurd (false≢true (sym e))
+
 module _ (text : List ℕ) (i kind radix : ℕ) (m : Bool) (t : Token) where
   pub number-over : length text ≤ i → from i (number kind radix m (drop i text)) ≡ t
       → ended (cond m TokenKind.MalformedIdentError kind) i ≡ t
@@ -175,6 +195,16 @@ module _ (text : List ℕ) (i kind radix : ℕ) (m : Bool) (t : Token) where
         → from i (number kind radix m (drop i text)) ≡ t → from (i + 1) (number kind radix m' (drop (i + 1) text)) ≡ t
     unfolding number
     number-next o m' f eo em p = rw (em, eo) (sym (from_more i 1 _) ∙ (rw (rest-cons text i h, sym e ∙ f) at p))
+
+    pub number-outside : (o m' : Bool) → r ≡ true → o ≡ (not (eqb (get_or text i 0) 95) && not (is_digit radix (get_or text i 0))) → o ≡ true → m' ≡ true
+        → from i (number kind radix m (drop i text)) ≡ t → from (i + 1) (number kind radix m' (drop (i + 1) text)) ≡ t
+    number-outside o m' f eo g em p = number-next o m' f eo (em ∙ sym (rw g (or-true m))) p
+
+  -- a byte that isn't outside the radix goes on with the number, and leaves it as it is
+  pub number-inside : i < length text → (o m' : Bool) → o ≡ (not (eqb (get_or text i 0) 95) && not (is_digit radix (get_or text i 0))) → o ≡ false → m' ≡ m
+      → from i (number kind radix m (drop i text)) ≡ t → from (i + 1) (number kind radix m' (drop (i + 1) text)) ≡ t
+  number-inside h o m' eo g em p =
+      number-next true h (sym (inside-part radix (get_or text i 0) (sym eo ∙ g))) o m' refl eo (em ∙ sym (rw g (or-false m))) p
 
 module _ (text : List ℕ) (i kind : ℕ) (hides hidden m : Bool) (t : Token) where
   pub string-over : length text ≤ i → from i (string kind hides hidden m (drop i text)) ≡ t

@@ -65,7 +65,7 @@ fn is_ident_part(b: u8) -> bool
 pub fn is_blank(b: u8) -> bool
     ensures { result ≡ blank b }
 {
-    matches!(b, b' ' | b'\t' | b'\n' | b'\r')
+    b == b' ' || b == b'\t' || b == b'\n' || b == b'\r'
 }
 
 // Rust's `char::is_digit`.
@@ -196,7 +196,7 @@ fn literal(kind: u32, error: u32, malformed: bool, end: usize) -> Token
 fn is_outside(radix: u32, b: u8) -> bool
     ensures { result ≡ (not (eqb b 95) && not (is_digit radix b)) }
 {
-    b != b'_' && !is_digit(radix, b)
+    !is_digit(radix, b) && b != b'_'
 }
 
 // lex_number_literal, from behind the digit or the radix prefix with its digit.
@@ -206,10 +206,12 @@ pub fn number(text: &[u8], at: usize, kind: u32, radix: u32) -> Token
     let mut malformed = false;
     for i in at..text.len() {
         let b = text[i];
-        if !is_ident_part(b) {
-            return literal(kind, token::MALFORMED_IDENT_ERROR, malformed, i);
+        if is_outside(radix, b) {
+            if !is_ident_part(b) {
+                return literal(kind, token::MALFORMED_IDENT_ERROR, malformed, i);
+            }
+            malformed = true;
         }
-        malformed = malformed || is_outside(radix, b);
     }
     literal(
         kind,

@@ -24,7 +24,15 @@ pub(crate) struct Spelled {
 pub fn same(a: &[u8], b: &[u8]) -> bool
     ensures { result ≡ same a.now b.now }
 {
-    a == b
+    if a.len() != b.len() {
+        return false;
+    }
+    for i in 0..a.len() {
+        if a[i] != b[i] {
+            return false;
+        }
+    }
+    true
 }
 
 fn kind_if(word: &[u8], spelling: &[u8], kind: u32, otherwise: u32) -> u32
