@@ -1,6 +1,6 @@
 -- Laws of the report's command: what its run is, by case.
 use Rattle.std.specs.Prelude.{◌≡◌, true, false, ℕ, ◌+◌, ◌*◌, ◌/◌, ◌≤◌, ◌<◌, length, set, get_or, List}
-use Rattle.std.proofs.Common.{sym, ◌∙◌, ap, refl, arith, le-leb}
+use Rattle.std.proofs.Common.{sym, ◌∙◌, arith, le-leb}
 use Rattle.std.proofs.Math.Numerals.{towards_suc}
 use Rattle.std.proofs.lemmas.Bool.{lt-leb}
 use Rattle.std.proofs.lemmas.List.Edits.{sets}
@@ -27,19 +27,17 @@ pub reported-fits : (kind detail : ℕ) (p : Span) (s : State) (m : Memory) → 
 unfolding reported
 reported-fits kind detail p s m h = rw (le-leb (report_width * s.reports + report_width) (length m.reports) h, reported)
 
--- A report is made, or doesn't fit; nodes and values stay as they are, also then.
+-- A report is made, or doesn't fit.
 pub record Reports (kind detail : ℕ) (q : Span) (p p' : Parser) : Type 0 where
   pub is : view tt p' ≡ from p (reported kind detail q)
   pub kept : Kept p p'
-  pub nodes : p'.nodes.now ≡ p.nodes.now
-  pub values : p'.values.now ≡ p.values.now
 
 pub emit-does : {kind detail : ℕ} {q : Span} {p p' : Parser} → Reports kind detail q p p' → Does (emit kind detail q) p tt p'
 unfolding eval
 emit-does e = record { is = λ w. e.is; kept = e.kept }
 
 pub emit-stays : {kind detail : ℕ} {q : Span} {p : Parser} → is_refused p ≡ true → Reports kind detail q p p
-emit-stays {kind = kind} {detail = detail} {q = q} {p = p} h = record { is = standing tt p (reported kind detail q) h; kept = same; nodes = refl; values = refl }
+emit-stays {kind = kind} {detail = detail} {q = q} {p = p} h = record { is = standing tt p (reported kind detail q) h; kept = same }
 
 module _ (p : Parser) (h : is_refused p ≡ false) (kind detail start end : ℕ) where
   pub emit-full : length p.reports.now / 3 ≤ p.state.reports → Reports kind detail (span start end) p (refused_at p ReportsDontFit)
@@ -47,8 +45,6 @@ module _ (p : Parser) (h : is_refused p ≡ false) (kind detail start end : ℕ)
       record {
         is = rw (not_refused p h) (sym (reported-full kind detail (span start end) p.state (words p) (omega arith)));
         kept = refused-kept;
-        nodes = refl;
-        values = refl;
       }
 
   pub emit-fits : (p' : Parser) (ws : List ℕ) → p.state.reports < length p.reports.now / 3
@@ -64,6 +60,10 @@ module _ (p : Parser) (h : is_refused p ≡ false) (kind detail start end : ℕ)
             rw (f, not_refused p h)
             (sym (rw (s, w, e) (reported-fits kind detail (span start end) p.state (words p) (omega arith) ∙ simp towards_suc)));
         kept = k;
-        nodes = ap (λ (m : Memory). m.nodes) w;
-        values = ap (λ (m : Memory). m.values) w;
       }
+
+-- What `emit` does: the report, and nodes and values stay as they are, also where it doesn't fit.
+pub record Emits (kind detail : ℕ) (q : Span) (p p' : Parser) : Type 0 where
+  pub reports : Reports kind detail q p p'
+  pub nodes : p'.nodes.now ≡ p.nodes.now
+  pub values : p'.values.now ≡ p.values.now

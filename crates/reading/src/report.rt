@@ -1,13 +1,13 @@
 // Reports: the emit functions.
-ghost use Rattle.reading.specs.Leaves.{Reports};
+ghost use Rattle.reading.specs.Leaves.{Emits};
 ghost use Rattle.literals.specs.Spelling.{span};
 
 use crate::Parser;
 use words::{REPORT_WIDTH, Refusal, Report};
 
-// A report, where there is room for it.
+// A report, where there is room for it; nodes and values stay as they are, also where there is none.
 pub fn emit(p: &mut Parser, kind: u32, detail: u32, start: u32, end: u32)
-    ensures { Reports kind detail (span start end) p.old p.new }
+    ensures { Emits kind detail (span start end) p.old p.new }
 {
     if p.is_refused() {
         return;

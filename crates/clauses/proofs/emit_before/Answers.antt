@@ -5,4 +5,4 @@ use Rattle.reading.specs.Leaves.{emit-does}
 use Rattle.clauses.proofs.emit_before.Goals as goal
 
 pub returns : goal.returns
-returns c = then (before-is c.before_start-start.ensures c.token_start-end.ensures) (emit-does c.emit.ensures)
+returns c = then (before-is c.before_start-start.ensures c.token_start-end.ensures) (emit-does c.emit.ensures.reports)

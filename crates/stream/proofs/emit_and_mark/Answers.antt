@@ -4,4 +4,4 @@ use Rattle.stream.specs.Commands.{mark-emit}
 use Rattle.stream.proofs.emit_and_mark.Goals as goal
 
 pub returns : goal.returns
-returns c = mark-emit (emit-does c.emit.ensures)
+returns c = mark-emit (emit-does c.emit.ensures.reports)

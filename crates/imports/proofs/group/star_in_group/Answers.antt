@@ -5,4 +5,4 @@ use Rattle.stream.specs.Commands.{before-is}
 use Rattle.imports.proofs.group.star_in_group.Goals as goal
 
 pub returns : goal.returns
-returns c = then (before-is c.before_start-start.ensures c.token_start-end.ensures) (emit-does c.emit.ensures)
+returns c = then (before-is c.before_start-start.ensures c.token_start-end.ensures) (emit-does c.emit.ensures.reports)
